@@ -1,0 +1,32 @@
+// What crosses the air and what is agreed beforehand: frames, blocks, terms, refusals.
+mod block;
+mod command;
+mod content;
+mod end;
+mod fault;
+mod frame;
+mod reading;
+mod refusal;
+mod terms;
+mod window;
+mod windowing;
+mod words;
+
+pub use block::Block;
+pub use command::Command;
+pub use command::CommandBlock;
+pub use content::Content;
+pub use content::Head;
+pub use end::End;
+pub use end::Side;
+pub use fault::Cause;
+pub use fault::Fault;
+pub use fault::Layer;
+pub use frame::Frame;
+pub use reading::Reading;
+pub use reading::ReadingBlock;
+pub use refusal::Refusal;
+pub use refusal::RefusalFromFault;
+pub use terms::Terms;
+pub use window::Window;
+pub use words::Words;
