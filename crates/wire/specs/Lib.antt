@@ -7,3 +7,5 @@ pub mod Readings
 pub mod Commands
 pub mod Frames
 pub mod Ends
+pub mod FirstFault
+pub mod Firmware

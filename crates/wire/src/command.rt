@@ -26,7 +26,10 @@ pub impl Block for Command as CommandBlock {
 
     fn words(self) -> Words {
         match self {
-            Command::Stop => Words { first: STOP, second: 0 },
+            Command::Stop => Words {
+                first: STOP,
+                second: 0,
+            },
             Command::Start { channel } => Words {
                 first: START + u32::from(channel),
                 second: 0,

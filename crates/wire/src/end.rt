@@ -1,7 +1,8 @@
 // The two ends of a path, and which frames each takes.
 ghost use mathlib.Core.Path.{_≡_};
-ghost use Rattle.std.specs.Vec.{made};
+ghost use Rattle.std.specs.Vec.{made, refused};
 ghost use Rattle.wire.specs.Ends.{checkedOf, takenOf, Takes};
+ghost use Rattle.wire.specs.FirstFault.{First};
 ghost use Rattle.wire.specs.Frames.{frameOf};
 use crate::block::Block;
 use crate::content::Content;
@@ -26,7 +27,7 @@ pub struct End {
 
 impl End {
     // Refuses a kind that this end does not take, and then a number that is not below N.
-    fn check(self, head: Head) -> Result<(), Fault>
+    pub fn check(self, head: Head) -> Result<(), Fault>
         ensures { λ r. ⌜ r ≡ checkedOf self head ⌝ }
     {
         let number = match (self.side, head) {
@@ -44,6 +45,15 @@ impl End {
 
     // Reads a frame that came to this end.
     pub fn read<B: Block>(self, frame: Frame) -> Result<Content<B>, Fault>
+        ensures value { λ r. ⌜ r ≡ takenOf self reads frame ⌝ }
+        ensures again { λ r. ⌜ made r (λ c. (frameOf written c ≡ frame) × Takes self c) ⌝ }
+        ensures first { λ r. ⌜ refused r (First self reads frame) ⌝ }
+    {
+        self.taken(frame)
+    }
+
+    // The head first, then this end's own checks, then the block.
+    fn taken<B: Block>(self, frame: Frame) -> Result<Content<B>, Fault>
         ensures value { λ r. ⌜ r ≡ takenOf self reads frame ⌝ }
         ensures again { λ r. ⌜ made r (λ c. (frameOf written c ≡ frame) × Takes self c) ⌝ }
     {

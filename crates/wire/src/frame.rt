@@ -4,8 +4,10 @@ ghost use mathlib.Core.Path.{_≡_};
 ghost use lib.Dec.{eqb};
 ghost use Rattle.std.specs.Vec.{made};
 ghost use Rattle.std.specs.declared.result.Result.the-variants.{Ok, Err};
+ghost use Rattle.wire.specs.Ends.{Takes, takenOf};
 ghost use Rattle.wire.specs.Faults.{notZero};
 ghost use Rattle.wire.specs.Frames.{headOf, wordOf, emptyOf, frameOf, contentOf};
+ghost use Rattle.wire.specs.declared.end.End.{End as Where};
 use crate::block::Block;
 use crate::content::Content;
 use crate::content::Head;
@@ -100,6 +102,7 @@ impl<B: Block> Content<B> {
     pub fn write(self) -> Frame
         ensures value { λ r. ⌜ r ≡ frameOf written self ⌝ }
         ensures back { λ r. ⌜ contentOf reads r ≡ Ok self ⌝ }
+        ensures taken { λ r. ⌜ ((e : Where) → Takes e self → takenOf e reads r ≡ Ok self) ⌝ }
     {
         match self {
             Content::Data { number, block } => Frame {
