@@ -1,6 +1,7 @@
 // Captured frames explained in plain words, line by line.
 mod hex;
 mod line;
+mod listen;
 mod meaning;
 mod text;
 
