@@ -1,0 +1,1 @@
+// List facts for every carrier; they stand in proofs/, and nothing here runs.
