@@ -1,0 +1,4 @@
+pub mod Vocabulary
+pub mod Promise
+pub mod Worked
+pub mod Turns

@@ -1,0 +1,4 @@
+pub mod Words
+pub mod Decoding
+pub mod Lines
+pub mod Runs
