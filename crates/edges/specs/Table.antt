@@ -1,6 +1,7 @@
 -- The readings at the edges of the rules.
 use mathlib.Core.Path.{_≡_}
 use Prim.Native.Nat.{ℕ, _%_}
+use Rattle.path.specs.Edges.{Readings}
 use Rattle.wire.specs.Commands.{wordsOf}
 use Rattle.wire.specs.Frames.{frameOf}
 use Rattle.wire.specs.Refusals.{Fit, TermsRefused}
@@ -35,6 +36,8 @@ pub record Table : Type 0 where
   -- δ 4: K is 1 at L 4, and 2 at L 5
   pub even : RoundedUp 4 4 1
   pub over : RoundedUp 5 4 2
+  -- N 6: a receiver at nr 7 with room for two, and a sender at na 5 that has sent up to 7
+  pub cyclic-numbers : Readings
   -- N 6: data 7 with Stop, acknowledgement 7 with window 2, end mark 8
   pub stop-seven : Words3 (Data (7 % 6) Stop) 0x40000001 0x40000000 0
   pub heard-seven : (w : Window) → w .size ≡ 2 → Words3 (Acknowledgement (7 % 6) w) 0x80020001 0 0

@@ -44,8 +44,6 @@ with-out e l = record { setting = e .setting; sender = e .sender; receiver = e .
 abbrev pub with-back : Ends → List Aged → Ends
 with-back e l = record { setting = e .setting; sender = e .sender; receiver = e .receiver; out = e .out; back = l }
 
--- THE NUMBERS
-
 -- one entry more is accepted; the end mark seals
 abbrev pub one-accepted : Bool → Sends → Sends
 one-accepted sealed s = record { ng = s .ng + 1; ns = s .ns; na = s .na; sw = s .sw; rest = s .rest; sealed = sealed }
@@ -71,8 +69,6 @@ ahead n cyclic whole = (cyclic + n - whole % n) % n
 -- rw, how many entries past nr the receiver has room for
 abbrev pub room-left : Ends → ℕ
 room-left e = e .setting .terms .«receive_window» + e .receiver .nd - e .receiver .nr
-
--- THE FRAMES
 
 -- the frame of an entry under a whole number
 abbrev pub entry-frame : {B : Type 0} → (B → Pair) → ℕ → ℕ → Entry B → Frame
@@ -105,8 +101,6 @@ module _ {B : Type 0} where
   entry-in (content.Data number block) = Block block
   entry-in (content.Acknowledgement number window) = EndMark
   entry-in (content.EndMark number) = EndMark
-
--- THE CALLS
 
 module _ {B : Type 0} where
   -- an entry is stored under ng and numbered
