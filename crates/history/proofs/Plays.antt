@@ -18,7 +18,7 @@ use Rattle.path.specs.Steps.{emptied, outcome-of}
 use Rattle.path.specs.declared.entry.Entry.{Entry}
 use Rattle.path.specs.declared.outcome.Outcome.{Outcome}
 use Rattle.promise.proofs.Playing.{played-more, turns-promised}
-use Rattle.promise.proofs.Whole.{promise}
+use Rattle.promise.proofs.Whole.{promise as kept-promise}
 use Rattle.promise.specs.Turns.{Turning, Played}
 use Rattle.promise.specs.Turns.Played.{none}
 use Rattle.promise.specs.declared.call.Answer.{Answer}
@@ -84,7 +84,8 @@ module _ {B : Type 0} (b : Ghosts B) where
       record {
         ends = s₁ .ends;
         same-calls = same;
-        replayed = turns-promised b (promise b back-law) first last turns (p .events) new played;
+        promise = kept-promise b back-law;
+        replayed = turns-promised b (kept-promise b back-law) first last turns (p .events) new played;
         outcome-told = told;
         out-given = o;
         back-given = k;

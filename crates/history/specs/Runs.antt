@@ -11,6 +11,7 @@ use Rattle.path.specs.States.{State, Ends, state-with, setting-with, new-ends}
 use Rattle.path.specs.Steps.{emptied, outcome-of}
 use Rattle.path.specs.declared.entry.Entry.{Entry}
 use Rattle.path.specs.declared.outcome.Outcome.{Outcome}
+use Rattle.promise.specs.Promise.{Promise}
 use Rattle.promise.specs.Turns.{Played, Replayed}
 use Rattle.promise.specs.declared.call.Call.{Call}
 use Rattle.promise.specs.declared.call.Turn.{Turn}
@@ -37,6 +38,8 @@ module _ {B : Type 0} (b : Ghosts B) where
   pub record Run (first : State B) (asked turns : List (Turn B)) (outcome : Outcome) (out back : List Aged) (kept : List (Entry B)) (got : List (Option (Entry B))) (book : List B) : Type 0 where
     pub ends : Ends
     pub same-calls : calls-of turns ≡ calls-of asked
+    -- the promise for every history, and for this one at every moment
+    pub promise : Promise b
     pub replayed : Replayed b first turns (state-with ends kept got book)
     -- the outcome and what is given back are the last state's
     pub outcome-told : outcome ≡ outcome-of ends
