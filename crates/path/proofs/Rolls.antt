@@ -1,9 +1,7 @@
 -- The calls of a round, one after the other. Assumes nothing.
 use mathlib.Core.List.{List}
-use mathlib.Core.Logic.{_⊎_, inl, inr}
 use mathlib.Core.Path.{_≡_, refl, sym, ap, subst}
-use Prim.Native.Nat.{ℕ, suc, _+_, _<_, _≤_}
-use native.Mathlib.Omega.{arith}
+use Prim.Native.Nat.{ℕ, suc, _+_}
 use Rattle.std.specs.declared.option.Option.{Option}
 use Rattle.std.specs.declared.result.Result.{Result}
 use Rattle.std.specs.declared.result.Result.the-variants.{Ok, Err}
@@ -16,11 +14,6 @@ use Rattle.path.specs.Steps.{Delivered, Ticked}
 use Rattle.path.specs.declared.entry.Entry.{Entry}
 use Rattle.wire.specs.declared.block.Block.{Ghosts}
 use Rattle.wire.specs.declared.refusal.Refusal.{Refusal}
-
--- a round stops where nothing is left to send, or the window is shut
-pub shut : (ns ng sw : ℕ) → ((ns < ng) × (sw < 1)) ⊎ (ng ≤ ns) → ns < ng → 1 ≤ sw → ⊥
-shut ns ng sw (inl p) more wide = omega (arith, p .1)
-shut ns ng sw (inr p) more wide = omega arith
 
 pub delivered-nd : {B : Type 0} (e e′ : Ends) (got got′ : List (Option (Entry B))) (book book′ : List B) (j : ℕ) → Delivered e got book (Ok j) e′ got′ book′ → e′ .receiver .nd ≡ e .receiver .nd + 1
 delivered-nd e e′ got got′ book book′ j d = ap (λ (x : Ends). x .receiver .nd) (d .2)

@@ -9,3 +9,4 @@ pub mod Edges
 pub mod Parts
 pub mod Events
 pub mod Rounds
+pub mod Moves

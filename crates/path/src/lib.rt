@@ -5,6 +5,7 @@ mod edges;
 mod entry;
 mod framing;
 mod making;
+mod moves;
 mod outcome;
 mod path;
 mod putting;

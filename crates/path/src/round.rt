@@ -8,6 +8,7 @@ ghost use Rattle.path.specs.States.{ends-of, state-with, state-of};
 ghost use Rattle.path.specs.Stores.{stored};
 ghost use Rattle.path.specs.declared.entry.Entry.{Entry as Kept};
 use crate::entry::Entry;
+use crate::moves::Move;
 use crate::path::Path;
 use crate::store::WindowStore;
 use carrier::Carrier;
@@ -70,14 +71,17 @@ impl<O: Carrier, K: Carrier> Path<O, K> {
         ensures closes { λ _. ⌜ ((book : List B) → Closes B·Block (state-of O·Carrier K·Carrier (now (self .entry)) (now (kept .entry)) (now (got .entry)) book) (state-of O·Carrier K·Carrier (now (self .exit)) (now (kept .entry)) (now (got .exit)) book)) ⌝ }
         ensures lender { λ _. ⌜ name (now (got .exit) .places) ≡ name (now (got .entry) .places) ⌝ }
     {
-        let sender = self.sender;
-        if sender.ns > sender.na {
-            let _ = self.resend(kept, 0);
-            self.land(got);
-        } else if sender.ns < sender.ng && sender.sw >= 1 {
-            self.wait::<B>();
-            let _ = self.send(kept);
-            self.land(got);
+        match self.sender.next_move() {
+            Move::Again => {
+                let _ = self.resend(kept, 0);
+                self.land(got);
+            }
+            Move::First => {
+                self.wait::<B>();
+                let _ = self.send(kept);
+                self.land(got);
+            }
+            Move::Stop => {}
         }
     }
 
