@@ -1,4 +1,6 @@
 // The words of a script as terms and calls.
+#![tactic(auto)]
+
 mod decoder;
 mod phase;
 mod reading;

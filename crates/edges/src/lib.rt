@@ -1,4 +1,6 @@
 // The readings at the edges of the rules, as one table.
+#![tactic(auto)]
+
 ghost use Rattle.edges.specs.Table.{Table};
 
 // Every row of the table holds.

@@ -1,4 +1,6 @@
 // The two ends of a transfer by their numbers alone: no frames, no carriers, no stores.
+#![tactic(auto)]
+
 mod cyclic;
 mod moves;
 mod outcome;

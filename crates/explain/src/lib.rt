@@ -1,4 +1,6 @@
 // Captured frames explained in plain words, line by line.
+#![tactic(auto)]
+
 mod hex;
 mod line;
 mod listen;

@@ -1,4 +1,6 @@
 // Explains captured frames: a line of three hexadecimal words in, a line of plain words out.
+#![tactic(auto)]
+
 use explain::{Blocks, Listener, explain};
 use std::env;
 use std::io::{BufRead, BufReader};

@@ -1,4 +1,6 @@
 // Two lawful programs, each one small change away from a program that the check refuses; they are run as tests.
+#![tactic(auto)]
+
 #[cfg(test)]
 mod tests {
     use carrier::{Carrier, Shelf, Slot};

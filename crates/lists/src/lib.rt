@@ -1,1 +1,2 @@
 // List facts for every carrier; they stand in proofs/, and nothing here runs.
+#![tactic(auto)]

@@ -1,4 +1,6 @@
 // The two ends of a transfer over two carriers, and the calls on it.
+#![tactic(auto)]
+
 mod air;
 mod edges;
 mod entry;

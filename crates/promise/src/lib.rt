@@ -1,4 +1,6 @@
 // What holds of every history of a path: the calls made on it, accepted or refused, and their answers.
+#![tactic(auto)]
+
 ghost use Rattle.promise.specs.Promise.{Promise};
 ghost use Rattle.promise.specs.Turns.{TurnsPromised};
 ghost use Rattle.promise.specs.Worked.{Works};

@@ -1,4 +1,6 @@
 // A layer that lowers the capacity of the carrier below.
+#![tactic(auto)]
+
 ghost use Rattle.std.specs.Prelude.{◌≡◌, ◌<◌, ◌≤◌, min, [], length, take};
 ghost use Rattle.carrier.specs.Carriers.{Put, Shown, Struck, ticked};
 ghost use Rattle.quota.specs.Quotas.{quota_list, quota_life, quota_room, quota_laws};

@@ -1,4 +1,6 @@
 // Why a frame is malformed and why a call is refused, by number.
+#![tactic(auto)]
+
 mod fault;
 mod refusals;
 

@@ -1,4 +1,6 @@
 // Runs a script of calls from standard input, and prints what each answers.
+#![tactic(auto)]
+
 use script::{Decoder, run};
 use std::io::Read;
 

@@ -1,4 +1,6 @@
 // A script of calls, run from its terms to its lines.
+#![tactic(auto)]
+
 mod running;
 
 pub use decode::Decoder;

@@ -1,4 +1,6 @@
 // A layer that lowers the lifetime of the carrier below.
+#![tactic(auto)]
+
 ghost use Rattle.std.specs.Prelude.{◌≡◌, ◌≤◌, min, max, [], filter};
 ghost use Rattle.carrier.specs.Carriers.{Put, Struck, under, ticked};
 ghost use Rattle.walk.specs.Walks.{Young};

@@ -1,4 +1,6 @@
 // Moves blocks and prints a checksum, so that what it costs can be counted.
+#![tactic(auto)]
+
 mod block;
 mod calls;
 mod moving;
@@ -11,7 +13,7 @@ use crate::sum::Sum;
 use crate::ticks::hold;
 use anyhow::anyhow;
 use carrier::{Shelf, Slot};
-use log::Log;
+use word_log::Log;
 use path::{Entry, WindowStore};
 use std::env;
 use two_way::TwoWay;

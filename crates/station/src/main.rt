@@ -1,4 +1,6 @@
 // A control room sends three orders to a pumping station over a bad line: a frame is lost, one comes late, one comes twice.
+#![tactic(auto)]
+
 mod step;
 mod text;
 

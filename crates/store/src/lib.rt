@@ -1,4 +1,6 @@
 // Window stores: entries by number over lent memory.
+#![tactic(auto)]
+
 mod store;
 mod storing;
 

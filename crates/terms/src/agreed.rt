@@ -1,5 +1,5 @@
 // The five numbers that both ends of a path agree on.
-ghost use Rattle.std.specs.Prelude.{◌≡◌, ◌+◌, ◌%◌, ◌≤◌, if◌then◌else◌, MatchResult};
+ghost use Rattle.std.specs.Prelude.{◌≡◌, ◌+◌, ◌%◌, ◌≤◌, ◌↔◌, IsTrue, MatchResult};
 ghost use Rattle.terms.specs.Rules.{Between, InRange, RoundedUp, Enough, Least, LeastIf, TermsRefused};
 
 use refusal::Refusal;
@@ -31,7 +31,7 @@ fn gaps(lifetime: u32, gap: u32) -> u32
 }
 
 fn in_range(send_window: u32, receive_window: u32, lifetime: u32, gap: u32) -> bool
-    ensures { if result then InRange send_window receive_window lifetime gap else (InRange send_window receive_window lifetime gap → ⊥) }
+    ensures { IsTrue result ↔ InRange send_window receive_window lifetime gap }
 {
     1 <= send_window
         && send_window <= 4096

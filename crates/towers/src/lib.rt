@@ -1,4 +1,6 @@
 // Carriers in use: one function for every carrier, and towers of layers made, used and taken apart.
+#![tactic(auto)]
+
 ghost use Rattle.std.specs.Prelude.{◌≡◌, ◌+◌, min, length};
 
 use carrier::Carrier;
@@ -20,7 +22,7 @@ pub fn put_one<C: Carrier>(carrier: &mut C, frame: Frame) -> u32
 mod tests {
     use super::*;
     use carrier::{Shelf, Slot};
-    use log::Log;
+    use word_log::Log;
     use quota::Quota;
     use short::Short;
     use two_way::{TwoWay, Way};

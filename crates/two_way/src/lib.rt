@@ -1,4 +1,6 @@
 // Two carriers joined: the list of the first, then that of the second.
+#![tactic(auto)]
+
 ghost use Rattle.std.specs.Prelude.{◌≡◌, ◌+◌, min, []};
 ghost use Rattle.two_way.specs.TwoWays.{Filled, PutWay, SameLives, SameRooms, first_list, second_list, two_list, two_life, two_room, two_laws};
 

@@ -1,4 +1,6 @@
 // Walks over any carrier, by its calls alone.
+#![tactic(auto)]
+
 ghost use Rattle.std.specs.Prelude.{◌≡◌, ◌<◌, ◌≤◌, [], length, take, filter, slice_index_or};
 ghost use Rattle.carrier.specs.Carriers.{Shown, no_frame, under};
 ghost use Rattle.walk.specs.Walks.{Young};

@@ -1,4 +1,6 @@
 // What crosses the air and what is agreed beforehand: frames, blocks, terms, refusals.
+#![tactic(auto)]
+
 mod block;
 mod command;
 mod content;

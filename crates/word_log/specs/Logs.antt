@@ -6,8 +6,8 @@ use Rattle.std.proofs.ByRecursion.{All-map}
 use Rattle.lists.proofs.Elements.{all_each}
 use Rattle.wire.specs.declared.frame.Frame.{Frame}
 use Rattle.carrier.specs.Carriers.{Aged, Lawful, no_frame}
-use Rattle.log.specs.declared.log.Stamped.{Stamped}
-use Rattle.log.specs.declared.log.Log.{Log}
+use Rattle.word_log.specs.declared.log.Stamped.{Stamped}
+use Rattle.word_log.specs.declared.log.Log.{Log}
 
 -- a frame and its departure
 abbrev pub stamped : Frame → ℕ → Stamped

@@ -1,9 +1,9 @@
 use Rattle.std.proofs.Common.{sym, ◌∙◌, arith}
 use Rattle.std.proofs.lemmas.List.Filters.{FiltersInPlace-more_no, FiltersInPlace-more_set, FiltersInPlace-more_here}
 use Rattle.std.proofs.lemmas.List.{get_or_default}
-use Rattle.log.specs.Logs.{quads, none, length-quads}
-use Rattle.log.proofs.log.close_expired.Goals as goal
-use Rattle.log.proofs.log.close_expired.Goals.{then-stays, else-stays, then-left-i, else-left-i}
+use Rattle.word_log.specs.Logs.{quads, none, length-quads}
+use Rattle.word_log.proofs.log.close_expired.Goals as goal
+use Rattle.word_log.proofs.log.close_expired.Goals.{then-stays, else-stays, then-left-i, else-left-i}
 
 pub loop-i-preserved : goal.loop-i-preserved
 loop-i-preserved c =

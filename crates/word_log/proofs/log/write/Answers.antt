@@ -1,5 +1,5 @@
-use Rattle.log.proofs.Quads.{set-quads}
-use Rattle.log.proofs.log.write.Goals as goal
+use Rattle.word_log.proofs.Quads.{set-quads}
+use Rattle.word_log.proofs.log.write.Goals as goal
 
 pub returns : goal.returns
 returns c =

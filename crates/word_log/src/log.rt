@@ -2,7 +2,7 @@
 ghost use Rattle.std.specs.Prelude.{◌≡◌, ◌+◌, ◌-◌, ◌/◌, ◌%◌, ◌^◌, ◌<◌, ◌≤◌, min, max, [], length, take, filter, slice_index_or, slice_set};
 ghost use Rattle.std.specs.List.{remove};
 ghost use Rattle.carrier.specs.Carriers.{Joined, no_frame};
-ghost use Rattle.log.specs.Logs.{stamped, none, quads, played, stays, log_list, log_life, log_room, log_laws};
+ghost use Rattle.word_log.specs.Logs.{stamped, none, quads, played, stays, log_list, log_life, log_room, log_laws};
 
 use carrier::Carrier;
 use wire::{Frame, Refusal, Words};

@@ -1,8 +1,8 @@
 use Rattle.std.proofs.Common.{◌∙◌, arith}
 use Rattle.std.proofs.lemmas.List.{get_or_default}
 use Rattle.lists.proofs.Gaps.{closing_none, closing_more}
-use Rattle.log.specs.Logs.{quads, none, length-quads}
-use Rattle.log.proofs.log.close_gap.Goals as goal
+use Rattle.word_log.specs.Logs.{quads, none, length-quads}
+use Rattle.word_log.proofs.log.close_gap.Goals as goal
 
 pub loop-i-init : goal.loop-i-init
 loop-i-init c =

@@ -1,4 +1,6 @@
 // The carrier that keeps its frames in a slice of words.
+#![tactic(auto)]
+
 mod log;
 
-pub use log::Log;
+pub use word_log::Log;

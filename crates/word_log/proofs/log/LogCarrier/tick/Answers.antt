@@ -1,8 +1,8 @@
 use Rattle.std.proofs.Common.{map, take, filter, refl, ap, ◌∙◌, arith}
 use Rattle.carrier.proofs.Held.{held_tick}
-use Rattle.log.specs.Logs.{quads, length-quads, played, stays, log_life, log_room}
-use Rattle.log.proofs.Quads.{later}
-use Rattle.log.proofs.log.LogCarrier.tick.Goals as goal
+use Rattle.word_log.specs.Logs.{quads, length-quads, played, stays, log_life, log_room}
+use Rattle.word_log.proofs.Quads.{later}
+use Rattle.word_log.proofs.log.LogCarrier.tick.Goals as goal
 
 pub returns : goal.returns
 returns c =

@@ -1,7 +1,7 @@
 use Rattle.std.proofs.Common.{arith}
 use Rattle.carrier.proofs.Held.{held_length}
-use Rattle.log.specs.Logs.{quads, length-quads, played, log_life, log_room}
-use Rattle.log.proofs.log.Log.held.Goals as goal
+use Rattle.word_log.specs.Logs.{quads, length-quads, played, log_life, log_room}
+use Rattle.word_log.proofs.log.Log.held.Goals as goal
 
 pub returns : goal.returns
 returns c =

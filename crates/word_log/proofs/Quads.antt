@@ -2,8 +2,8 @@
 use Rattle.std.proofs.Common.{◌≡◌, ℕ, zero, suc, ◌+◌, ◌-◌, ◌*◌, ◌/◌, ◌%◌, ◌^◌, ◌<◌, ◌≤◌, min, true, List, [], ◌∷◌, length, get_or, set, refl, ap, arith}
 use Rattle.std.proofs.lemmas.Bool.{ltb-true}
 use Rattle.carrier.specs.Carriers.{older, under}
-use Rattle.log.specs.declared.log.Stamped.{Stamped}
-use Rattle.log.specs.Logs.{quads, quad, elapsed, played}
+use Rattle.word_log.specs.declared.log.Stamped.{Stamped}
+use Rattle.word_log.specs.Logs.{quads, quad, elapsed, played}
 
 pub get_or-quads : (ws : List ℕ) (k : ℕ) (d : Stamped) → k < length ws / 4 → get_or (quads ws) k d ≡ quad (get_or ws (4 * k) 0) (get_or ws (4 * k + 1) 0) (get_or ws (4 * k + 2) 0) (get_or ws (4 * k + 3) 0)
 get_or-quads [] k d lt = absurd (omega arith)

@@ -1,8 +1,8 @@
 use Rattle.std.proofs.Common.{min, refl, ap, ◌∙◌, arith}
 use Rattle.carrier.specs.Carriers.{no_frame}
 use Rattle.carrier.proofs.Held.{held_length, held_show}
-use Rattle.log.specs.Logs.{none, quads, length-quads, played, log_life, log_room}
-use Rattle.log.proofs.log.Log.read.Goals as goal
+use Rattle.word_log.specs.Logs.{none, quads, length-quads, played, log_life, log_room}
+use Rattle.word_log.proofs.log.Log.read.Goals as goal
 
 pub read-requires : goal.read-requires
 read-requires c =

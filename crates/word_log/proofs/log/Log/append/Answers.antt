@@ -1,7 +1,7 @@
 use Rattle.std.proofs.Common.{◌≡◌, ℕ, ◌-◌, min, refl, ap, arith}
 use Rattle.carrier.proofs.Held.{held_put}
-use Rattle.log.specs.Logs.{quads, length-quads, elapsed, played, log_life, log_room}
-use Rattle.log.proofs.log.Log.append.Goals as goal
+use Rattle.word_log.specs.Logs.{quads, length-quads, elapsed, played, log_life, log_room}
+use Rattle.word_log.proofs.log.Log.append.Goals as goal
 
 pub returns : goal.returns
 returns c =
