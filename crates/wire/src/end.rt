@@ -44,17 +44,17 @@ impl End {
 
     // Reads a frame that came to this end.
     pub fn read<B: Block>(self, frame: Frame) -> Result<Content<B>, Fault>
-        ensures value { result ≡ taken_of self reads frame }
-        ensures again { IfOk result (λ c. (frame_of written c ≡ frame) × Takes self c) }
-        ensures first { IfErr result (First self reads frame) }
+        ensures value { result ≡ taken_of self B.reads frame }
+        ensures again { IfOk result (λ c. (frame_of B.written c ≡ frame) × Takes self c) }
+        ensures first { IfErr result (First self B.reads frame) }
     {
         self.taken(frame)
     }
 
     // The head first, then this end's own checks, then the block.
     fn taken<B: Block>(self, frame: Frame) -> Result<Content<B>, Fault>
-        ensures value { result ≡ taken_of self reads frame }
-        ensures again { IfOk result (λ c. (frame_of written c ≡ frame) × Takes self c) }
+        ensures value { result ≡ taken_of self B.reads frame }
+        ensures again { IfOk result (λ c. (frame_of B.written c ≡ frame) × Takes self c) }
     {
         let head = frame.head()?;
         self.check(head)?;

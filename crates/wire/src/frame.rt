@@ -78,8 +78,8 @@ impl Frame {
 
     // Reads the whole frame.
     pub fn content<B: Block>(self) -> Result<Content<B>, Fault>
-        ensures value { result ≡ content_of reads self }
-        ensures again { IfOk result (λ c. frame_of written c ≡ self) }
+        ensures value { result ≡ content_of B.reads self }
+        ensures again { IfOk result (λ c. frame_of B.written c ≡ self) }
     {
         let head = self.head()?;
         self.below(head)
@@ -88,8 +88,8 @@ impl Frame {
     // Reads the words below a head that was read.
     pub(crate) fn below<B: Block>(self, head: Head) -> Result<Content<B>, Fault>
         requires { (head_of self ≡ Ok head) × (word_of head ≡ self.head) }
-        ensures value { result ≡ content_of reads self }
-        ensures again { IfOk result (λ c. frame_of written c ≡ self) }
+        ensures value { result ≡ content_of B.reads self }
+        ensures again { IfOk result (λ c. frame_of B.written c ≡ self) }
     {
         match head {
             Head::Data { number } => {
@@ -106,9 +106,9 @@ impl Frame {
 
 impl<B: Block> Content<B> {
     pub fn write(self) -> Frame
-        ensures value { result ≡ frame_of written self }
-        ensures back { content_of reads result ≡ Ok self }
-        ensures taken { (e : Where) → Takes e self → taken_of e reads result ≡ Ok self }
+        ensures value { result ≡ frame_of B.written self }
+        ensures back { content_of B.reads result ≡ Ok self }
+        ensures taken { (e : Where) → Takes e self → taken_of e B.reads result ≡ Ok self }
     {
         match self {
             Content::Data { number, block } => Frame {
