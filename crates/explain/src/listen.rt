@@ -39,7 +39,7 @@ impl Spoken for Reading {
 }
 
 fn meaning<B: Spoken>(read: Result<Content<B>, Fault>) -> Meaning
-    ensures { result ≡ meant said read }
+    ensures { result ≡ meant B.said read }
 {
     let content = match read {
         Ok(content) => content,
@@ -57,7 +57,7 @@ fn meaning<B: Spoken>(read: Result<Content<B>, Fault>) -> Meaning
 
 // As one end would read a frame, or alone.
 fn read_by<B: Block>(end: Option<End>, frame: Frame) -> Result<Content<B>, Fault>
-    ensures { result ≡ read_by end reads frame }
+    ensures { result ≡ read_by end B.reads frame }
 {
     match end {
         Some(end) => end.read(frame),

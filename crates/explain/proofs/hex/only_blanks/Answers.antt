@@ -4,4 +4,4 @@ use Rattle.explain.proofs.Scan.{only_blanks}
 use Rattle.explain.proofs.hex.only_blanks.Goals as goal
 
 pub returns : goal.returns
-returns c = only_blanks c.args.line.now (skipped (drop c.args.from c.args.line.now)) c.skip-blanks.result c.skip-blanks.ensures.rest c.skip-blanks.ensures.within
+returns c = only_blanks c.args.line.now (skipped (drop c.args.from c.args.line.now)) c.skip_blanks.result c.skip_blanks.ensures.rest c.skip_blanks.ensures.within

@@ -2,8 +2,8 @@ use Rattle.std.proofs.Common.{rules}
 use Rattle.explain.proofs.Scan.{skip_more, skip_here, skip_end}
 use Rattle.explain.proofs.hex.skip_blanks.Goals as goal
 
-pub returns-then-not-is-blank : goal.returns-then-not-is-blank
-returns-then-not-is-blank c = search (rules, skip_here)
+pub returns-then-not-is_blank : goal.returns-then-not-is_blank
+returns-then-not-is_blank c = search (rules, skip_here)
 
 pub loop-at-preserved : goal.loop-at-preserved
 loop-at-preserved c = search (rules, skip_more)

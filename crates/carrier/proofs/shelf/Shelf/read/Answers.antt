@@ -4,8 +4,8 @@ use Rattle.carrier.specs.Shelves.{none, clipped, shelf_life, shelf_room}
 use Rattle.carrier.proofs.Held.{held_length, held_show}
 use Rattle.carrier.proofs.shelf.Shelf.read.Goals as goal
 
-pub offset-bounds-self-place : goal.offset-bounds-self-place
-offset-bounds-self-place c =
+pub offset_bounds-self-place : goal.offset_bounds-self-place
+offset_bounds-self-place c =
     let s = c.args.self.now in
     omega (arith, held_length (clipped (shelf_life s)) s.used (shelf_room s) s.slots.now (omega arith))
 

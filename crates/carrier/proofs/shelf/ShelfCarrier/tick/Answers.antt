@@ -8,13 +8,13 @@ pub returns-then-self-gt0 : goal.returns-then-self-gt0
 returns-then-self-gt0 c =
     let s = c.args.self.now in
     let xs = s.slots.now in
-    let zs = c.close-expired-self.new.slots in
+    let zs = c.close_expired-self.new.slots in
     let life = shelf_life s in
     let u = c.held-used.result in
-    let r = c.close-expired-self.result in
-    let kept = aged_kept life c.lifetime-life.result u r xs c.age-all.new.slots zs c.lifetime-life.ensures (omega arith) c.age-all.ensures c.close-expired-self.ensures.list in
+    let r = c.close_expired-self.result in
+    let kept = aged_kept life c.lifetime-life.result u r xs c.age_all.new.slots zs c.lifetime-life.ensures (omega arith) c.age_all.ensures c.close_expired-self.ensures.list in
     record {
-      ticked = held_tick (clipped life) s.used (shelf_room s) xs (omega arith) u c.held-used.ensures.used _ (omega arith) xs (clipped life) (λ x. clipped life (grown life x)) zs life r (later life) c.close-expired-self.ensures.upto kept;
+      ticked = held_tick (clipped life) s.used (shelf_room s) xs (omega arith) u c.held-used.ensures.used _ (omega arith) xs (clipped life) (λ x. clipped life (grown life x)) zs life r (later life) c.close_expired-self.ensures.upto kept;
       life = refl;
       room = omega arith;
     }
