@@ -21,7 +21,7 @@ pub returns : goal.returns
 returns g c =
     let e = ends_of g.O.Carrier g.K.Carrier c.loop-delivered.self in
     let e' = ends_of g.O.Carrier g.K.Carrier c.deliver.new.self in
-    let told = c.in-default.ensures.delivered in
+    let told = c.in_default.ensures.delivered in
     let inv = c.loop-delivered.invariant in
     record {
       delivers = λ kept.

@@ -8,7 +8,7 @@ returns g c =
           record {
             there = _;
             arrives = (c.arrive.result, record { does = (c.arrive.ensures.arrived, refl, refl) });
-            strikes = (c.lose-outward.result, record { does = (c.lose-outward.ensures, refl, refl, refl) });
+            strikes = (c.lose_outward.result, record { does = (c.lose_outward.ensures, refl, refl, refl) });
           };
       lender = c.arrive.ensures.lender;
     }

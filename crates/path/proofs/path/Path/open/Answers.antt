@@ -9,10 +9,10 @@ returns g c =
             stored = _;
             told = _;
             known = _;
-            delivers = c.deliver-all-delivered.ensures.delivers kept;
+            delivers = c.deliver_all-delivered.ensures.delivers kept;
             acknowledges = (c.acknowledge.result, record { does = (c.acknowledge.ensures.acknowledged, refl, refl, refl) });
             hears = (c.hear.result, record { does = (c.hear.ensures.heard, refl, refl, refl) });
             strikes = (c.lose_back.result, record { does = (c.lose_back.ensures, refl, refl, refl) });
           };
-      lender = c.deliver-all-delivered.ensures.lender;
+      lender = c.deliver_all-delivered.ensures.lender;
     }

@@ -11,4 +11,4 @@ loop-i-preserved g c = λ kept got book more all s' e rest.
 
 pub returns : goal.returns
 returns g c = λ kept got book.
-    c.loop-i.invariant kept got book 0 c.args.self.now.sender.terms.gap (state_with (ends_of g.O.Carrier g.K.Carrier c.loop-i.self) kept got book) (omega (arith, c.gap-i-end.ensures, c.loop-i-test.false, c.loop-i.auto.-i-end)) no-tick
+    c.loop-i.invariant kept got book 0 c.args.self.now.sender.terms.gap (state_with (ends_of g.O.Carrier g.K.Carrier c.loop-i.self) kept got book) (omega (arith, c.gap-i-end.ensures, c.loop-i-test.false, c.loop-i.auto._i-end)) no-tick
