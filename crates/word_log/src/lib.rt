@@ -3,4 +3,4 @@
 
 mod log;
 
-pub use word_log::Log;
+pub use log::Log;

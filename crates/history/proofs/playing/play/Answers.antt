@@ -9,12 +9,12 @@ loop-i-init g c = (plays_none _, refl, refl, refl)
 
 pub loop-i-preserved : goal.loop-i-preserved
 loop-i-preserved g c =
-    let told = c.make-call-answer.ensures in
+    let told = c.make_call-answer.ensures in
     let inv = c.loop-i.invariant in (
       plays_turn _ c.loop-i.turns c.loop-i.i _ (omega arith) inv.0 told.makes,
       calls_of_set c.loop-i.turns c.loop-i.i _ (ap (λ (t : Turn _). t.call) (get_or_default c.loop-i.turns c.loop-i.i _ _ (omega arith))) ∙ inv.1,
-      told.kept-lender ∙ inv.2,
-      told.got-lender ∙ inv.3,
+      told.kept_lender ∙ inv.2,
+      told.got_lender ∙ inv.3,
     )
 
 pub returns : goal.returns
@@ -23,6 +23,6 @@ returns g c =
     record {
       played = plays_all _ c.loop-i.turns c.loop-i.i (omega arith) inv.0;
       same = inv.1;
-      kept-lender = inv.2;
-      got-lender = inv.3;
+      kept_lender = inv.2;
+      got_lender = inv.3;
     }
