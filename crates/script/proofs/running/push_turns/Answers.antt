@@ -4,8 +4,8 @@ use Rattle.script.proofs.running.push_turns.Goals as goal
 
 pub loop-position-preserved : goal.loop-position-preserved
 loop-position-preserved c =
-    lines_more (vec_items c.args.lines.now) (vec_items c.loop-position.lines) (vec_items c.push.new.self) c.args.turns.now c.loop-position.position _ c.of-turn.result
-    c.loop-position-test.true c.of-turn.ensures c.loop-position.invariant c.in-ok-push.ensures.items
+    lines_more (vec_items c.args.lines.now) (vec_items c.loop-position.lines) (vec_items c.push.new.self) c.args.turns.now c.loop-position.position _ c.of_turn.result
+    c.loop-position-test.true c.of_turn.ensures c.loop-position.invariant c.in_ok-push.ensures.items
 
 pub returns : goal.returns
 returns c = search (rules, lines_all)
