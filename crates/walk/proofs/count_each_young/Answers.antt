@@ -6,8 +6,8 @@ use Rattle.carrier.specs.Carriers.{under, no_frame}
 use Rattle.walk.proofs.count_each_young.Goals as goal
 use Rattle.walk.proofs.count_each_young.Goals.{then-age-life, else-age-life}
 
-pub overflow-add-young : goal.overflow-add-young
-overflow-add-young g c =
+pub overflow_add-young : goal.overflow_add-young
+overflow_add-young g c =
     let l = g.C.Carrier.list c.args.c.now in
     omega (arith, c.loop-i.invariant, length-kept (under c.args.life) (take c.loop-i.i l), length-take c.loop-i.i l)
 

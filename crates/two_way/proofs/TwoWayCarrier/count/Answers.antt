@@ -5,8 +5,8 @@ use Rattle.two_way.specs.TwoWays.{two_life}
 use Rattle.two_way.proofs.TwoWays.{length-joint}
 use Rattle.two_way.proofs.TwoWayCarrier.count.Goals as goal
 
-pub overflow-add-both : goal.overflow-add-both
-overflow-add-both g c =
+pub overflow_add-both : goal.overflow_add-both
+overflow_add-both g c =
     let p = g.A.Carrier in
     let q = g.B.Carrier in
     let t = c.args.self.now in
@@ -22,6 +22,6 @@ returns g c =
     let b = q.list t.second in
     let n = two_life p q t in
     let same = c.lifetime-life.ensures in
-    let one = c.count-young.ensures ∙ ap (λ v. length (filter (under v) a)) same in
-    let two = c.count-young-2.ensures ∙ ap (λ v. length (filter (under v) b)) same in
+    let one = c.count_young.ensures ∙ ap (λ v. length (filter (under v) a)) same in
+    let two = c.count_young-2.ensures ∙ ap (λ v. length (filter (under v) b)) same in
     omega (arith, length-joint n a b, length-kept (under n) a, p.laws.fits t.first, p.laws.small t.first)

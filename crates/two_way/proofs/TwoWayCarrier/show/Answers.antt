@@ -10,17 +10,17 @@ returns-then-place-first g c =
     let t = c.args.self.now in
     let a = g.A.Carrier.list t.first in
     let b = g.B.Carrier.list t.second in
-    subst (λ n. Shown c.args.place (joint n a b) c.show-young.result) c.lifetime-life.ensures
-    (show_first c.lifetime-life.result c.args.place a b c.show-young.result (omega arith) c.show-young.ensures)
+    subst (λ n. Shown c.args.place (joint n a b) c.show_young.result) c.lifetime-life.ensures
+    (show_first c.lifetime-life.result c.args.place a b c.show_young.result (omega arith) c.show_young.ensures)
 
 pub returns-then-place-lt-MOST : goal.returns-then-place-lt-MOST
 returns-then-place-lt-MOST g c =
     let t = c.args.self.now in
     let a = g.A.Carrier.list t.first in
     let b = g.B.Carrier.list t.second in
-    let r = c.show-young-then-place-lt-MOST.result in
+    let r = c.show_young-then-place-lt-MOST.result in
     subst (λ n. Shown c.args.place (joint n a b) r) c.lifetime-life.ensures
-    (show_second c.lifetime-life.result c.args.place c.count-young-first.result a b r c.if-place-lt-MOST.true c.count-young-first.ensures c.if-place-first.false c.show-young-then-place-lt-MOST.ensures)
+    (show_second c.lifetime-life.result c.args.place c.count_young-first.result a b r c.if-place-lt-MOST.true c.count_young-first.ensures c.if-place-first.false c.show_young-then-place-lt-MOST.ensures)
 
 pub returns-else-place-lt-MOST : goal.returns-else-place-lt-MOST
 returns-else-place-lt-MOST g c =
