@@ -22,11 +22,11 @@ pub fn put_one<C: Carrier>(carrier: &mut C, frame: Frame) -> u32
 mod tests {
     use super::*;
     use carrier::{Shelf, Slot};
-    use word_log::Log;
     use quota::Quota;
     use short::Short;
     use two_way::{TwoWay, Way};
     use wire::{Refusal, Words};
+    use word_log::Log;
 
     fn frame(head: u32) -> Frame {
         Frame {
