@@ -1,6 +1,7 @@
 // Explains captured frames: a line of three hexadecimal words in, a line of plain words out.
 #![tactic(auto)]
 
+use anyhow::anyhow;
 use explain::{Blocks, Listener, explain};
 use std::env;
 use std::io::{BufRead, BufReader};
@@ -11,7 +12,7 @@ const USAGE: &str = "usage: inspect [command|reading] [sender N|receiver N]";
 fn end_at(side: Side, numbers: &str) -> anyhow::Result<End> {
     match numbers.parse::<u32>() {
         Ok(numbers) => Ok(End { side, numbers }),
-        Err(_) => Err(USAGE.into()),
+        Err(_) => Err(anyhow!("{USAGE:?}")),
     }
 }
 
@@ -22,7 +23,7 @@ fn listener(rt: &HostRuntime) -> anyhow::Result<Listener> {
     let mut end = None;
     for word in env::args(rt)?.skip(1) {
         if end.is_some() {
-            return Err(USAGE.into());
+            return Err(anyhow!("{USAGE:?}"));
         }
         match (word.as_str(), side) {
             (numbers, Some(side)) => end = Some(end_at(side, numbers)?),
@@ -30,11 +31,11 @@ fn listener(rt: &HostRuntime) -> anyhow::Result<Listener> {
             ("reading", None) => blocks = Blocks::Readings,
             ("sender", None) => side = Some(Side::Sender),
             ("receiver", None) => side = Some(Side::Receiver),
-            _ => return Err(USAGE.into()),
+            _ => return Err(anyhow!("{USAGE:?}")),
         }
     }
     if side.is_some() && end.is_none() {
-        return Err(USAGE.into());
+        return Err(anyhow!("{USAGE:?}"));
     }
     Ok(Listener { blocks, end })
 }

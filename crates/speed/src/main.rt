@@ -13,11 +13,11 @@ use crate::sum::Sum;
 use crate::ticks::hold;
 use anyhow::anyhow;
 use carrier::{Shelf, Slot};
-use word_log::Log;
 use path::{Entry, WindowStore};
 use std::env;
 use two_way::TwoWay;
 use wire::{Reading, Refusal, Terms};
+use word_log::Log;
 
 const USAGE: &str =
     "usage: speed shelves | log | calls shelves|log STEPS | ticks shelf|log|two_way HELD";
@@ -122,7 +122,7 @@ fn make_ticks(rt: &HostRuntime, kind: &str, held: u16) -> anyhow::Result<Sum> {
                 &mut sum,
             );
         }
-        _ => return Err(USAGE.into()),
+        _ => return Err(anyhow!("{USAGE:?}")),
     }
     Ok(sum)
 }
@@ -131,7 +131,7 @@ fn carried_by(word: &str) -> anyhow::Result<Over> {
     match word {
         "shelves" => Ok(Over::Shelves),
         "log" => Ok(Over::Log),
-        _ => Err(USAGE.into()),
+        _ => Err(anyhow!("{USAGE:?}")),
     }
 }
 
@@ -139,7 +139,7 @@ fn carried_by(word: &str) -> anyhow::Result<Over> {
 fn number(word: &str, most: u16) -> anyhow::Result<u16> {
     match word.parse::<u16>() {
         Ok(number) if number <= most => Ok(number),
-        _ => Err(USAGE.into()),
+        _ => Err(anyhow!("{USAGE:?}")),
     }
 }
 
@@ -155,9 +155,9 @@ fn run(rt: &HostRuntime) -> anyhow::Result<()> {
                 u32::from(number(count.as_str(), 8)?),
             )?,
             "ticks" => make_ticks(rt, kind.as_str(), number(count.as_str(), 4096)?)?,
-            _ => return Err(USAGE.into()),
+            _ => return Err(anyhow!("{USAGE:?}")),
         },
-        _ => return Err(USAGE.into()),
+        _ => return Err(anyhow!("{USAGE:?}")),
     };
     let value = sum.value;
     println!(rt; "{value}")?;
