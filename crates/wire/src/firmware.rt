@@ -1,4 +1,4 @@
-// The functions that C firmware calls; include/transfer.h declares them.
+// What C firmware calls, by way of wire_c: include/transfer.h declares it.
 ghost use Rattle.std.specs.Prelude.{◌≡◌, ◌+◌, ◌≤◌, length};
 ghost use Rattle.wire.specs.Firmware.{word_at, fault_of, LeastOr0};
 
@@ -15,8 +15,7 @@ fn word_at(bytes: &[u8], at: usize) -> u32
 }
 
 // The cause, 1 or 2, for which twelve bytes are no frame; 0 for neither, and 255 for any other length.
-#[unsafe(no_mangle)]
-pub extern "C" fn transfer_frame_fault(bytes: &[u8]) -> u8
+pub fn transfer_frame_fault(bytes: &[u8]) -> u8
     ensures { result ≡ fault_of bytes.now }
 {
     if bytes.len() != 12 {
@@ -34,8 +33,7 @@ pub extern "C" fn transfer_frame_fault(bytes: &[u8]) -> u8
 }
 
 // The least count of numbers for four terms, also above 65,536; 0 where one is out of range.
-#[unsafe(no_mangle)]
-pub extern "C" fn transfer_least_numbers(
+pub fn transfer_least_numbers(
     send_window: u32,
     receive_window: u32,
     lifetime: u32,
