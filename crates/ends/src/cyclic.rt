@@ -5,9 +5,9 @@ ghost use Rattle.ends.specs.Numbers.{ahead};
 use wire::Terms;
 
 // How far a cyclic number lies past a whole one.
-pub(crate) fn ahead(terms: Terms, cyclic: u16, whole: u32) -> u32
+pub(crate) fn ahead(terms: Terms, cyclic: u16, whole: u64) -> u64
     ensures { result ≡ ahead terms.numbers cyclic whole }
 {
-    let numbers = terms.numbers();
-    (u32::from(cyclic) + numbers - whole % numbers) % numbers
+    let numbers = u64::from(terms.numbers());
+    (u64::from(cyclic) + numbers - whole % numbers) % numbers
 }

@@ -7,8 +7,8 @@ use wire::Terms;
 pub struct Receiver {
     pub terms: Terms,
     // how many entries are in sequence: every lower one is there
-    pub nr: u32,
+    pub nr: u64,
     // how many of them were delivered
-    pub nd: u32,
+    pub nd: u64,
     ghost order: { (nd ≤ nr) × (nr ≤ 1000001) × (nr ≤ nd + terms.receive_window) },
 }

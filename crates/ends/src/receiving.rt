@@ -1,6 +1,6 @@
 // The receiver's steps, over its numbers alone.
-ghost use Rattle.std.specs.Prelude.{◌≡◌, ◌+◌, ◌-◌, ◌≤◌, min, max, None};
-ghost use Rattle.ends.specs.Numbers.{gets_of, ahead, ReadAs};
+ghost use Rattle.std.specs.Prelude.{◌≡◌, ◌+◌, ◌-◌, ◌<◌, ◌≤◌, min, max, None};
+ghost use Rattle.ends.specs.Numbers.{gets_of, one_delivered, ahead, ReadAs};
 ghost use Rattle.ends.specs.Stops.{Checked, deliver_stop};
 
 use crate::cyclic::ahead;
@@ -26,37 +26,58 @@ impl Receiver {
         ensures bound { result ≤ 4096 }
     {
         let terms = self.terms;
-        (terms.receive_window() + self.nd - self.nr) as u16
+        (u64::from(terms.receive_window()) + self.nd - self.nr) as u16
     }
 
     // Where nr has to stop: at a place that is not yet delivered, and past a million blocks and their end mark.
-    pub fn limit(self) -> u32
+    pub fn limit(self) -> u64
         ensures value { result ≡ min (self.nd + self.terms.receive_window) 1000001 }
         ensures above { self.nr ≤ result }
     {
         let terms = self.terms;
-        (self.nd + terms.receive_window()).min(1_000_001)
+        (self.nd + u64::from(terms.receive_window())).min(1_000_001)
     }
 
     // The whole number that a cyclic one is read under; none where there is no room for it.
-    pub fn number(self, cyclic: u16) -> Option<u32>
+    pub fn number(self, cyclic: u16) -> Option<u64>
         ensures { ReadAs (ahead self.terms.numbers cyclic self.nr) (self.terms.receive_window + self.nd - self.nr) self.nr result }
     {
         let far = ahead(self.terms, cyclic, self.nr);
-        if far < u32::from(self.room()) {
+        if far < u64::from(self.room()) {
             Some(self.nr + far)
         } else {
             None
         }
     }
 
+    // nr went up.
+    pub(crate) fn risen(mut self, nr: u64) -> Receiver
+        requires { (self.nr ≤ nr) × (nr ≤ min (self.nd + self.terms.receive_window) 1000001) }
+        ensures nr { result.nr ≡ nr }
+        ensures nd { result.nd ≡ self.nd }
+        ensures terms { result.terms ≡ self.terms }
+    {
+        self.nr = nr;
+        self
+    }
+
     // nr goes up to a number, never down and never past its limit.
-    pub fn rise(&mut self, nr: u32)
+    pub fn rise(&mut self, nr: u64)
         ensures nr { self.new.nr ≡ min (max self.old.nr nr) (min (self.old.nd + self.old.terms.receive_window) 1000001) }
         ensures nd { self.new.nd ≡ self.old.nd }
         ensures terms { self.new.terms ≡ self.old.terms }
     {
-        self.nr = self.nr.max(nr).min(self.limit());
+        *self = self.risen(self.nr.max(nr).min(self.limit()));
+    }
+
+    // Entry nd was delivered.
+    pub(crate) fn delivered(mut self) -> Receiver
+        requires { self.nd < self.nr }
+        ensures numbers { gets_of result ≡ one_delivered (gets_of self) }
+        ensures terms { result.terms ≡ self.terms }
+    {
+        self.nd += 1;
+        self
     }
 
     // Refuses where every entry in sequence was delivered.
@@ -75,6 +96,8 @@ impl Receiver {
         ensures nr { self.new.nr ≡ self.old.nr }
         ensures terms { self.new.terms ≡ self.old.terms }
     {
-        self.nd = (self.nd + 1).min(self.nr);
+        if self.nd < self.nr {
+            *self = self.delivered();
+        }
     }
 }

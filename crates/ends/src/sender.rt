@@ -7,11 +7,11 @@ use wire::Terms;
 pub struct Sender {
     pub terms: Terms,
     // how many entries were accepted
-    pub ng: u32,
+    pub ng: u64,
     // how many of them were sent at least once
-    pub ns: u32,
+    pub ns: u64,
     // how many of them were heard of
-    pub na: u32,
+    pub na: u64,
     // how many entries past na the receiver has room for
     pub sw: u32,
     // ticks since the last first send, at most the gap

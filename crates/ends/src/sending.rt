@@ -1,5 +1,5 @@
 // The sender's steps, over its numbers alone.
-ghost use Rattle.std.specs.Prelude.{◌≡◌, true, false, None};
+ghost use Rattle.std.specs.Prelude.{◌≡◌, ◌+◌, ◌<◌, if◌then◌else◌, true, false, None};
 ghost use Rattle.ends.specs.Numbers.{sends_of, new_sends, one_accepted, one_sent, rested, ahead, hearing, rise, outcome};
 ghost use Rattle.ends.specs.Stops.{Checked, Stepped, accept_stop, block_stop, send_stop, resend_stop};
 
@@ -30,7 +30,7 @@ impl Sender {
         ensures { Checked (accept_stop self.terms (sends_of self) None) result }
     {
         let terms = self.terms;
-        if self.ng - self.na == terms.send_window() {
+        if self.ng - self.na == u64::from(terms.send_window()) {
             return Err(Refusal::SenderStoreFull);
         }
         if self.sealed {
@@ -39,83 +39,120 @@ impl Sender {
         Ok(())
     }
 
+    // One entry more; the last one is the end mark.
+    pub(crate) fn accepted(mut self, last: bool) -> Sender
+        requires { (self.ng < self.na + self.terms.send_window) × (self.ng < (if last then 1000001 else 1000000)) }
+        ensures numbers { sends_of result ≡ one_accepted last (sends_of self) }
+        ensures terms { result.terms ≡ self.terms }
+    {
+        self.ng += 1;
+        self.sealed = last;
+        self
+    }
+
+    // Entry ns was sent, and the rest begins.
+    pub(crate) fn sent(mut self) -> Sender
+        requires { self.ns < self.ng }
+        ensures numbers { sends_of result ≡ one_sent (sends_of self) }
+        ensures terms { result.terms ≡ self.terms }
+    {
+        self.ns += 1;
+        self.rest = 0;
+        self
+    }
+
     // One block more.
-    pub fn offer(mut self) -> Result<Sender, Refusal>
+    pub fn offer(self) -> Result<Sender, Refusal>
         ensures { Stepped self.terms (accept_stop self.terms (sends_of self) (block_stop (sends_of self) None)) (one_accepted false (sends_of self)) result }
     {
         self.open()?;
         if self.ng >= 1_000_000 {
             return Err(Refusal::PathFull);
         }
-        self.ng += 1;
-        Ok(self)
+        Ok(self.accepted(false))
     }
 
     // The end mark, the last entry.
-    pub fn seal(mut self) -> Result<Sender, Refusal>
+    pub fn seal(self) -> Result<Sender, Refusal>
         ensures { Stepped self.terms (accept_stop self.terms (sends_of self) None) (one_accepted true (sends_of self)) result }
     {
         self.open()?;
-        self.ng += 1;
-        self.sealed = true;
-        Ok(self)
+        Ok(self.accepted(true))
     }
 
     // Entry ns is sent for the first time, and the rest begins.
-    pub fn send(mut self) -> Result<Sender, Refusal>
+    pub fn send(self) -> Result<Sender, Refusal>
         ensures { Stepped self.terms (send_stop self.terms (sends_of self) None) (one_sent (sends_of self)) result }
     {
         let terms = self.terms;
         if self.ns == self.ng {
             return Err(Refusal::NothingToSend);
         }
-        if self.ns >= self.na + self.sw {
+        if self.ns >= self.na + u64::from(self.sw) {
             return Err(Refusal::WindowClosed);
         }
         if self.rest < terms.gap() {
             return Err(Refusal::TooSoon);
         }
-        self.ns += 1;
-        self.rest = 0;
-        Ok(self)
+        Ok(self.sent())
     }
 
     // Refuses an entry `j` past na that was not sent, or was heard of.
     pub fn outstanding(self, j: u64) -> Result<(), Refusal>
         ensures { Checked (resend_stop j (sends_of self) None) result }
     {
-        if j >= u64::from(self.ns - self.na) {
+        if j >= self.ns - self.na {
             return Err(Refusal::NotOutstanding);
         }
         Ok(())
     }
 
     // How far a cyclic number lies past na.
-    pub fn ahead(self, cyclic: u16) -> u32
+    pub fn ahead(self, cyclic: u16) -> u64
         ensures { result ≡ ahead self.terms.numbers cyclic self.na }
     {
         ahead(self.terms, cyclic, self.na)
     }
 
     // How many entries an acknowledgement `far` past na tells of.
-    pub fn rise(self, far: u32) -> u32
+    pub fn rise(self, far: u64) -> u64
         ensures { result ≡ rise far (sends_of self) }
     {
         if far <= self.ns - self.na { far } else { 0 }
     }
 
-    // An acknowledgement `far` past na with a window is heard; one past ns is not heeded.
-    pub fn hear(&mut self, far: u32, window: u16)
-        ensures numbers { sends_of self.new ≡ hearing self.old.terms.send_window far window (sends_of self.old) }
-        ensures terms { self.new.terms ≡ self.old.terms }
+    // An acknowledgement `far` past na with a window was heard; one past ns is not heeded.
+    pub(crate) fn heard(mut self, far: u64, window: u16) -> Sender
+        ensures numbers { sends_of result ≡ hearing self.terms.send_window far window (sends_of self) }
+        ensures terms { result.terms ≡ self.terms }
     {
-        let told = u32::from(window).min(self.terms.send_window());
+        let terms = self.terms;
+        let told = u32::from(window).min(terms.send_window());
         if far == 0 {
             self.sw = self.sw.max(told);
         } else if far <= self.ns - self.na {
             self.na += far;
             self.sw = told;
         }
+        self
+    }
+
+    // An acknowledgement `far` past na with a window is heard; one past ns is not heeded.
+    pub fn hear(&mut self, far: u64, window: u16)
+        ensures numbers { sends_of self.new ≡ hearing self.old.terms.send_window far window (sends_of self.old) }
+        ensures terms { self.new.terms ≡ self.old.terms }
+    {
+        *self = self.heard(far, window);
+    }
+
+    // A tick passed: the rest grows up to the gap.
+    pub(crate) fn rested(mut self) -> Sender
+        ensures numbers { sends_of result ≡ rested self.terms.gap (sends_of self) }
+        ensures terms { result.terms ≡ self.terms }
+    {
+        let terms = self.terms;
+        self.rest = (self.rest + 1).min(terms.gap());
+        self
     }
 
     // A tick passes: the rest grows up to the gap.
@@ -123,7 +160,7 @@ impl Sender {
         ensures numbers { sends_of self.new ≡ rested self.old.terms.gap (sends_of self.old) }
         ensures terms { self.new.terms ≡ self.old.terms }
     {
-        self.rest = (self.rest + 1).min(self.terms.gap());
+        *self = self.rested();
     }
 
     // What the end of the path says.
@@ -134,9 +171,9 @@ impl Sender {
             return Outcome::Complete;
         }
         Outcome::Unsure {
-            heard: u64::from(self.na),
-            sent: u64::from(self.ns),
-            accepted: u64::from(self.ng),
+            heard: self.na,
+            sent: self.ns,
+            accepted: self.ng,
         }
     }
 }

@@ -1,7 +1,7 @@
 -- When each call is refused: the smallest number wins, and none means that the call is accepted.
 use Rattle.std.specs.Prelude.{ℕ, ◌+◌, ◌-◌, ◌%◌, ◌<◌, ◌≤◌, Bool, true, false, cond, not, ◌||◌, List, length, Some, None, Ok, Err, Option, Result, ◌==◌, nat_le, nat_lt, slice_index_or}
 use Rattle.carrier.specs.Carriers.{Aged, no_frame}
-use Rattle.ends.specs.Stops.{where_so, accept_stop, block_stop, send_stop, resend_stop, deliver_stop}
+use Rattle.ends.specs.Stops.{where_so}
 use Rattle.path.specs.States.{Setting, Ends}
 use Rattle.store.specs.Stores.{at_number}
 use Rattle.path.specs.declared.entry.Entry.{Entry}
@@ -65,25 +65,32 @@ module _ {B : Type 0} where
   offer_bar e kept =
       first_of e.setting.refused
       (where_so (not (length kept == e.setting.terms.send_window)) SenderStoreLength
-      (accept_stop e.setting.terms e.sender (block_stop e.sender None)))
+      (where_so (e.sender.ng - e.sender.na == e.setting.terms.send_window) SenderStoreFull
+      (where_so e.sender.sealed AlreadySealed
+      (where_so (nat_le 1000000 e.sender.ng) PathFull None))))
 
   abbrev pub seal_bar : Ends → List (Entry B) → Option Refusal
   seal_bar e kept =
       first_of e.setting.refused
       (where_so (not (length kept == e.setting.terms.send_window)) SenderStoreLength
-      (accept_stop e.setting.terms e.sender None))
+      (where_so (e.sender.ng - e.sender.na == e.setting.terms.send_window) SenderStoreFull
+      (where_so e.sender.sealed AlreadySealed None)))
 
   abbrev pub send_bar : Ends → List (Entry B) → Option Refusal
   send_bar e kept =
       first_of e.setting.refused
       (where_so (not (length kept == e.setting.terms.send_window)) SenderStoreLength
-      (send_stop e.setting.terms e.sender (where_so (nat_le e.setting.out_room (length e.out)) CarrierFull None)))
+      (where_so (e.sender.ns == e.sender.ng) NothingToSend
+      (where_so (nat_le (e.sender.na + e.sender.sw) e.sender.ns) WindowClosed
+      (where_so (nat_lt e.sender.rest e.setting.terms.gap) TooSoon
+      (where_so (nat_le e.setting.out_room (length e.out)) CarrierFull None)))))
 
   abbrev pub resend_bar : ℕ → Ends → List (Entry B) → Option Refusal
   resend_bar j e kept =
       first_of e.setting.refused
       (where_so (not (length kept == e.setting.terms.send_window)) SenderStoreLength
-      (resend_stop j e.sender (where_so (nat_le e.setting.out_room (length e.out)) CarrierFull None)))
+      (where_so (nat_le (e.sender.ns - e.sender.na) j) NotOutstanding
+      (where_so (nat_le e.setting.out_room (length e.out)) CarrierFull None)))
 
   abbrev pub arrive_bar : (Pair → Result B Fault) → ℕ → Ends → List (Option (Entry B)) → Option Refusal
   arrive_bar reads place e got =
@@ -101,7 +108,8 @@ module _ {B : Type 0} where
   deliver_bar e got book =
       first_of e.setting.refused
       (where_so (not (length got == e.setting.terms.receive_window)) ReceiverStoreLength
-      (deliver_stop e.receiver (where_so (past_book (at_number None got e.receiver.nd) e.receiver.nd (length book)) BookFull None)))
+      (where_so (e.receiver.nd == e.receiver.nr) NothingToDeliver
+      (where_so (past_book (at_number None got e.receiver.nd) e.receiver.nd (length book)) BookFull None)))
 
 abbrev pub hear_bar : ℕ → Ends → Option Refusal
 hear_bar place e =

@@ -1,14 +1,15 @@
 -- What each call does: its answer and the state after it, or a refusal and everything as found.
-use Rattle.std.specs.Prelude.{◌≡◌, ℕ, ◌+◌, ◌-◌, ◌*◌, ◌%◌, ◌^◌, ◌<◌, ◌≤◌, min, max, Bool, true, false, cond, List, length, replicate, is_some, Some, None, Ok, Err, Option, Result, slice_set}
+use Rattle.std.specs.Prelude.{◌≡◌, ℕ, ◌+◌, ◌-◌, ◌*◌, ◌%◌, ◌^◌, ◌<◌, ◌≤◌, min, max, Bool, true, false, cond, List, length, replicate, is_some, Some, None, Ok, Err, Option, Result, ◌==◌, slice_set}
 use Rattle.std.specs.List.{remove}
 use Rattle.carrier.specs.Carriers.{Aged, Joined, ticked}
 use Rattle.path.specs.Bars.{frame_at, far_end, near_end, admitted, offer_bar, seal_bar, send_bar, resend_bar, arrive_bar, deliver_bar, hear_bar, acknowledge_bar, lose_bar, tick_bar}
-use Rattle.ends.specs.Numbers.{Sends, Gets, one_accepted, one_sent, rested, one_delivered, ahead, hearing, rise, outcome}
+use Rattle.ends.specs.Numbers.{Sends, Gets, one_accepted, one_sent, rested, one_delivered, ahead, hearing, rise}
 use Rattle.path.specs.States.{Ends}
 use Rattle.store.specs.Stores.{at_number, set-number}
 use Rattle.path.specs.declared.entry.Entry.{Entry}
 use Rattle.path.specs.declared.entry.Entry.TheVariants.{Block, EndMark}
 use Rattle.ends.specs.declared.outcome.Outcome.{Outcome}
+use Rattle.ends.specs.declared.outcome.Outcome.TheVariants.{Complete, Unsure}
 use Rattle.wire.specs.Ends.{taken_of}
 use Rattle.wire.specs.Frames.{frame_of, word_of}
 use Rattle.wire.specs.Words.{zeros}
@@ -159,9 +160,9 @@ Ticked e (Ok u) e' =
     × (e' ≡ with_back (with_out (with_sender e (rested e.setting.terms.gap e.sender)) (ticked e.setting.out_life e.out)) (ticked e.setting.back_life e.back))
 Ticked e (Err r) e' = (tick_bar e ≡ Some r) × (e' ≡ e)
 
--- what the end says: complete exactly if a seal was accepted and every accepted entry was heard of
+-- complete exactly if a seal was accepted and every accepted entry was heard of
 abbrev pub outcome_of : Ends → Outcome
-outcome_of e = outcome e.sender
+outcome_of e = cond e.sender.sealed (cond (e.sender.na == e.sender.ng) Complete (Unsure e.sender.na e.sender.ns e.sender.ng)) (Unsure e.sender.na e.sender.ns e.sender.ng)
 
 -- the receiver's store after the making of a path: emptied, or as found where the making was refused
 abbrev pub emptied : {B : Type 0} → Option Refusal → List (Option (Entry B)) → List (Option (Entry B))

@@ -8,12 +8,13 @@ mod framing;
 mod making;
 mod path;
 mod putting;
+mod reading;
 mod receiver_calls;
 mod round;
 mod sender_calls;
 
 pub use edges::readings_hold;
-pub use ends::Outcome;
+pub use ends::{Outcome, Receiver, Sender};
 pub use entry::Entry;
 pub use path::Path;
 pub use store::WindowStore;

@@ -15,11 +15,10 @@ impl<O: Carrier, K: Carrier> Path<O, K> {
     pub(crate) fn put_entry<B: Block>(
         &mut self,
         kept: &WindowStore<Entry<B>>,
-        number: u32,
+        number: u64,
     ) -> Result<(), Refusal>
         ensures { PutOut B.Block.written number (ends_of O.Carrier K.Carrier self.old) (stored kept.now) result (ends_of O.Carrier K.Carrier self.new) }
     {
-        let number = u64::from(number);
         let entry = kept.read(number, Entry::EndMark);
         let frame = entry_frame(self.sender.terms, number, entry);
         self.out.put(frame)
@@ -30,7 +29,7 @@ impl<O: Carrier, K: Carrier> Path<O, K> {
         ensures { PutBack (ends_of O.Carrier K.Carrier self.old) result (ends_of O.Carrier K.Carrier self.new) }
     {
         let receiver = self.receiver;
-        let frame = acknowledgement(receiver.terms, u64::from(receiver.nr), receiver.room());
+        let frame = acknowledgement(receiver.terms, receiver.nr, receiver.room());
         self.back.put(frame)
     }
 }

@@ -12,15 +12,15 @@ use crate::framing::carried;
 use crate::path::Path;
 use carrier::Carrier;
 use store::WindowStore;
-use wire::{Block, Content, End, Refusal, Side};
+use wire::{Block, Content, Refusal};
 
 // The first number from `from` on whose place is empty, at most `limit`.
-fn climb<B: Block>(got: &WindowStore<Option<Entry<B>>>, from: u32, limit: u32) -> u32
+fn climb<B: Block>(got: &WindowStore<Option<Entry<B>>>, from: u64, limit: u64) -> u64
     requires { from ≤ limit }
     ensures { Risen (stored got.now) from limit result }
 {
     let mut n = from;
-    while n < limit && got.read(u64::from(n), None).is_some() {
+    while n < limit && got.read(n, None).is_some() {
         n += 1;
     }
     n
@@ -65,7 +65,7 @@ impl<O: Carrier, K: Carrier> Path<O, K> {
     {
         let receiver = self.receiver;
         let (cyclic, entry) = carried(content);
-        let number = u64::from(receiver.number(cyclic)?);
+        let number = receiver.number(cyclic)?;
         got.write(number, Some(entry));
         let nr = climb(got, receiver.nr, receiver.limit());
         self.receiver.rise(nr);
@@ -81,13 +81,7 @@ impl<O: Carrier, K: Carrier> Path<O, K> {
         ensures arrived { Arrived B.Block.reads place (ends_of O.Carrier K.Carrier self.old) (stored got.old) result (ends_of O.Carrier K.Carrier self.new) (stored got.new) }
         ensures lender { got.new.places.ghost_name ≡ got.old.places.ghost_name }
     {
-        self.check_got(got.len())?;
-        let (frame, _) = self.out.show(place)?;
-        let end = End {
-            side: Side::Receiver,
-            numbers: self.receiver.terms.numbers(),
-        };
-        let content = end.read::<B>(frame)?;
+        let content = self.read_outward(place, got)?;
         Ok(self.take(content, got))
     }
 
@@ -103,7 +97,7 @@ impl<O: Carrier, K: Carrier> Path<O, K> {
         self.check_got(got.len())?;
         let receiver = self.receiver;
         receiver.due()?;
-        let number = u64::from(receiver.nd);
+        let number = receiver.nd;
         write_due(book, number, got.read(number, None))?;
         got.write(number, None);
         self.receiver.deliver();
@@ -118,6 +112,6 @@ impl<O: Carrier, K: Carrier> Path<O, K> {
             return Err(refusal);
         }
         self.put_acknowledgement()?;
-        Ok(u64::from(self.receiver.nr))
+        Ok(self.receiver.nr)
     }
 }

@@ -11,7 +11,7 @@ use crate::framing::told;
 use crate::path::Path;
 use carrier::Carrier;
 use store::WindowStore;
-use wire::{Block, End, Refusal, Side};
+use wire::{Block, Refusal};
 
 impl<O: Carrier, K: Carrier> Path<O, K> {
     // Refuses where the making was refused, and a sender's store of the wrong length.
@@ -40,10 +40,9 @@ impl<O: Carrier, K: Carrier> Path<O, K> {
         self.check_kept(kept.len())?;
         let sender = self.sender;
         let next = sender.offer()?;
-        let number = u64::from(sender.ng);
-        kept.write(number, Entry::Block(block));
+        kept.write(sender.ng, Entry::Block(block));
         self.sender = next;
-        Ok(number)
+        Ok(sender.ng)
     }
 
     // Accepts the end mark, and answers its number. Nothing is accepted after it.
@@ -54,10 +53,9 @@ impl<O: Carrier, K: Carrier> Path<O, K> {
         self.check_kept(kept.len())?;
         let sender = self.sender;
         let next = sender.seal()?;
-        let number = u64::from(sender.ng);
-        kept.write(number, Entry::EndMark);
+        kept.write(sender.ng, Entry::EndMark);
         self.sender = next;
-        Ok(number)
+        Ok(sender.ng)
     }
 
     // Sends the lowest entry that was not sent yet, and answers its number.
@@ -69,7 +67,7 @@ impl<O: Carrier, K: Carrier> Path<O, K> {
         let next = sender.send()?;
         self.put_entry(kept, sender.ns)?;
         self.sender = next;
-        Ok(u64::from(sender.ns))
+        Ok(sender.ns)
     }
 
     // Sends an entry again that was sent and not heard of, the one `j` past na, and answers its number.
@@ -79,29 +77,19 @@ impl<O: Carrier, K: Carrier> Path<O, K> {
         self.check_kept(kept.len())?;
         let sender = self.sender;
         sender.outstanding(j)?;
-        let number = sender.na + j as u32;
+        let number = sender.na + j;
         self.put_entry(kept, number)?;
-        Ok(u64::from(number))
+        Ok(number)
     }
 
     // Reads the acknowledgement at a place of the back carrier, and answers by how many entries na rose.
     pub fn hear(&mut self, place: u32) -> Result<u64, Refusal>
         ensures heard { Heard place (ends_of O.Carrier K.Carrier self.old) result (ends_of O.Carrier K.Carrier self.new) }
     {
-        if let Some(refusal) = self.refused {
-            return Err(refusal);
-        }
-        let (frame, _) = self.back.show(place)?;
-        let head = frame.head()?;
-        let end = End {
-            side: Side::Sender,
-            numbers: self.sender.terms.numbers(),
-        };
-        end.check(head)?;
-        let (cyclic, window) = told(head);
-        let far = self.sender.ahead(cyclic);
-        let rise = self.sender.rise(far);
+        let (cyclic, window) = told(self.read_back(place)?);
+        let sender = self.sender;
+        let far = sender.ahead(cyclic);
         self.sender.hear(far, window);
-        Ok(u64::from(rise))
+        Ok(sender.rise(far))
     }
 }
