@@ -6,11 +6,9 @@ use Rattle.wire.specs.declared.command.Command.{Command as Order}
 use Rattle.wire.specs.declared.command.Command.TheVariants.{Stop, Start, Set}
 use Rattle.refusal.specs.declared.fault.Cause.{Cause}
 use Rattle.refusal.specs.declared.fault.Cause.TheVariants.{NoKind, NotZero, KindNotTaken, NumberTooLarge, BlockRefused}
-use Rattle.refusal.specs.declared.fault.Fault.{Fault}
 use Rattle.refusal.specs.declared.fault.Layer.{Layer}
 use Rattle.refusal.specs.declared.fault.Layer.TheVariants.{Frame as InFrame, End as AtEnd, Block as InBlock}
 use Rattle.wire.specs.declared.frame.Frame.{Frame}
-use Rattle.wire.specs.declared.reading.Reading.{Reading as Measured}
 use Rattle.explain.specs.Lines.{frame_on}
 use Rattle.explain.specs.Meanings.{meaning_of}
 use Rattle.explain.specs.declared.line.Explained.{Explained}

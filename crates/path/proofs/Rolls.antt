@@ -1,6 +1,5 @@
 -- The calls of a round, one after the other. Assumes nothing.
 use Rattle.std.proofs.Common.{◌≡◌, ℕ, suc, ◌+◌, List, Ok, Err, Option, Result, sym, refl, ap, subst}
-use Rattle.path.specs.Events.{Step}
 use Rattle.path.specs.Rounds.{Ticks, Delivers}
 use Rattle.path.specs.Rounds.Ticks.{more as one-tick}
 use Rattle.path.specs.Rounds.Delivers.{none as no-delivery, more as one-delivery}

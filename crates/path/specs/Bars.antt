@@ -1,14 +1,13 @@
 -- When each call is refused: the smallest number wins, and none means that the call is accepted.
-use Rattle.std.specs.Prelude.{ℕ, ◌+◌, ◌-◌, ◌%◌, ◌<◌, ◌≤◌, Bool, true, false, cond, not, ◌||◌, List, length, Some, None, Ok, Err, Option, Result, ◌==◌, nat_le, nat_lt, slice_index_or}
+use Rattle.std.specs.Prelude.{ℕ, ◌+◌, ◌-◌, Bool, false, not, ◌||◌, List, length, Some, None, Ok, Err, Option, Result, ◌==◌, nat_le, nat_lt, slice_index_or}
 use Rattle.carrier.specs.Carriers.{Aged, no_frame}
 use Rattle.ends.specs.Stops.{where_so}
-use Rattle.path.specs.States.{Setting, Ends}
+use Rattle.path.specs.States.{Ends}
 use Rattle.store.specs.Stores.{at_number}
 use Rattle.path.specs.declared.entry.Entry.{Entry}
 use Rattle.path.specs.declared.entry.Entry.TheVariants.{Block, EndMark}
 use Rattle.wire.specs.Ends.{checked_of, taken_of}
 use Rattle.wire.specs.Frames.{head_of}
-use Rattle.wire.specs.declared.content.Content.{Content}
 use Rattle.wire.specs.declared.content.Head.{Head}
 use Rattle.wire.specs.declared.end.End.{End}
 use Rattle.wire.specs.declared.end.Side.TheVariants.{Sender, Receiver}

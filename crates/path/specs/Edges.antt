@@ -2,7 +2,6 @@
 use Rattle.std.specs.Prelude.{◌≡◌, ℕ, List, Some, None, Ok, Option, Result}
 use Rattle.path.specs.Bars.{admitted, near_end, far_end, frame_at}
 use Rattle.path.specs.States.{Ends}
-use Rattle.ends.specs.Numbers.{ahead}
 use Rattle.path.specs.Steps.{Arrived, Heard, room_left, number_in, cyclic_in}
 use Rattle.path.specs.declared.entry.Entry.{Entry}
 use Rattle.wire.specs.Ends.{taken_of}

@@ -1,5 +1,5 @@
 -- Histories: what each call did, the latest first, from the making of a path on.
-use Rattle.std.specs.Prelude.{◌≡◌, ℕ, List, [], ◌∷◌, length, replicate, Some, None, Ok, Err, Option, Result}
+use Rattle.std.specs.Prelude.{◌≡◌, ℕ, List, [], ◌∷◌, length, replicate, None, Option, Result}
 use Rattle.path.specs.Bars.{make_bar}
 use Rattle.path.specs.States.{State, new_ends}
 use Rattle.path.specs.Steps.{Offered, Sealed, Sent, Resent, Arrived, Heard, Delivered, Acknowledged, LostOut, LostBack, Ticked}

@@ -1,5 +1,5 @@
 -- Whether a path can be made.
-use Rattle.std.specs.Prelude.{◌≡◌, ℕ, Some, None, Ok, Err, Option, Result}
+use Rattle.std.specs.Prelude.{ℕ, Option}
 use Rattle.carrier.specs.declared.carrier.Carrier.{Ghosts}
 use Rattle.path.specs.Bars.{make_bar}
 use Rattle.refusal.specs.declared.refusals.Refusal.{Refusal}

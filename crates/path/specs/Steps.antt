@@ -1,5 +1,5 @@
 -- What each call does: its answer and the state after it, or a refusal and everything as found.
-use Rattle.std.specs.Prelude.{◌≡◌, ℕ, ◌+◌, ◌-◌, ◌*◌, ◌%◌, ◌^◌, ◌<◌, ◌≤◌, min, max, Bool, true, false, cond, List, length, replicate, is_some, Some, None, Ok, Err, Option, Result, ◌==◌, slice_set}
+use Rattle.std.specs.Prelude.{◌≡◌, ℕ, ◌+◌, ◌-◌, ◌*◌, ◌%◌, ◌^◌, ◌<◌, ◌≤◌, min, true, false, cond, List, length, replicate, is_some, Some, None, Ok, Err, Option, Result, ◌==◌, slice_set}
 use Rattle.std.specs.List.{remove}
 use Rattle.carrier.specs.Carriers.{Aged, Joined, ticked}
 use Rattle.path.specs.Bars.{frame_at, far_end, near_end, admitted, offer_bar, seal_bar, send_bar, resend_bar, arrive_bar, deliver_bar, hear_bar, acknowledge_bar, lose_bar, tick_bar}
@@ -11,7 +11,7 @@ use Rattle.path.specs.declared.entry.Entry.TheVariants.{Block, EndMark}
 use Rattle.ends.specs.declared.outcome.Outcome.{Outcome}
 use Rattle.ends.specs.declared.outcome.Outcome.TheVariants.{Complete, Unsure}
 use Rattle.wire.specs.Ends.{taken_of}
-use Rattle.wire.specs.Frames.{frame_of, word_of}
+use Rattle.wire.specs.Frames.{word_of}
 use Rattle.wire.specs.Words.{zeros}
 use Rattle.wire.specs.declared.content.Content.{Content}
 use Rattle.wire.specs.declared.content.Content.TheVariants as content

@@ -1,5 +1,5 @@
 -- Offers and seals keep the invariant.
-use Rattle.std.proofs.Common.{◌≡◌, ℕ, ◌+◌, ◌-◌, ◌%◌, ◌<◌, ◌≤◌, Bool, true, false, cond, ◌⊎◌, List, [], ◌∷◌, length, None, Ok, sym, refl, ap, ◌∙◌, subst, inl, inr, arith, length-set}
+use Rattle.std.proofs.Common.{◌≡◌, ℕ, ◌+◌, ◌%◌, ◌<◌, ◌≤◌, Bool, true, false, ◌⊎◌, List, ◌∷◌, length, None, Ok, sym, refl, ap, ◌∙◌, subst, inl, inr, arith, length-set}
 use mathlib.Core.List.Memᴰ
 use mathlib.Core.List.{Memᴰ}
 use native.Mathlib.Decide.{dec_lt}
@@ -8,15 +8,15 @@ use Rattle.promise.specs.Vocabulary.{takes_ticks, rises, Accepted, by_offer, by_
 use Rattle.promise.proofs.Cyclic.{window_unique}
 use Rattle.promise.proofs.Events.{kind, accepted_later, earlier, out_more, back_more, out_before, back_before}
 use Rattle.promise.proofs.Gates.{offer_open, seal_open}
-use Rattle.promise.proofs.Invariant.{Nums, Few, Held, Acc, Inv}
+use Rattle.promise.proofs.Invariant.{Few, Held, Acc, Inv}
 use Rattle.promise.proofs.Later.{stored_later, booked_later, there_still, sent_still, delivered_still, data_later, out_still, back_still}
 use Rattle.promise.proofs.Places.{rewritten}
-use Rattle.promise.proofs.Timing.{Legal, legal}
+use Rattle.promise.proofs.Timing.{legal}
 use Rattle.path.specs.Bars.{offer_bar, seal_bar}
 use Rattle.path.specs.States.{State}
 use Rattle.ends.specs.Numbers.{one_accepted}
 use Rattle.path.specs.Steps.{with_sender}
-use Rattle.store.specs.Stores.{at_number, set-number}
+use Rattle.store.specs.Stores.{set-number}
 use Rattle.path.specs.declared.entry.Entry.{Entry}
 use Rattle.path.specs.declared.entry.Entry.TheVariants.{Block, EndMark}
 use Rattle.wire.specs.declared.block.Block.{Ghosts}

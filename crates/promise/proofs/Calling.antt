@@ -1,22 +1,21 @@
 -- What each call of a round does in a round: it is accepted, and leads to a known state.
-use Rattle.std.proofs.Common.{◌≡◌, ℕ, zero, suc, ◌+◌, ◌-◌, ◌%◌, ◌<◌, ◌≤◌, min, Bool, true, false, ◌⊎◌, List, [], ◌∷◌, ◌++◌, length, get_or, take, drop, Some, None, Ok, Err, Option, Result, sym, refl, ap, ◌∙◌, subst, inl, inr, mod-lt, arith}
+use Rattle.std.proofs.Common.{◌≡◌, ℕ, ◌+◌, ◌%◌, ◌<◌, ◌≤◌, List, [], ◌∷◌, ◌++◌, length, take, drop, Some, None, Ok, Err, Option, Result, refl, ap, ◌∙◌, inl, inr, arith}
 use native.Mathlib.Decide.{dec_lt}
 use Rattle.std.specs.List.{remove}
 use Rattle.carrier.specs.Carriers.{Aged, Joined, ticked}
-use Rattle.path.specs.Events.{Event, Step, send, resend, arrive, hear, deliver, acknowledge, lose_out, lose_back, tick}
-use Rattle.promise.specs.Vocabulary.{Accepted}
+use Rattle.path.specs.Events.{Event, Step, send, resend, arrive, hear, acknowledge, lose_out, lose_back, tick}
 use Rattle.promise.proofs.Cyclic.{ahead_exact}
 use Rattle.promise.proofs.Frames.{entry_content, entry_back, Read, ack_back, number_of}
 use Rattle.promise.proofs.Gates.{acknowledge_shut, hear_shut, lose_shut, resend_shut, send_shut, arrive_shut}
-use Rattle.promise.proofs.Hearing.{Heeds, hearing_cases}
+use Rattle.promise.proofs.Hearing.{hearing_cases}
 use Rattle.promise.proofs.Invariant.{Inv}
 use Rattle.promise.proofs.Places.{rewritten}
 use Rattle.promise.proofs.Reading.{same_ok, its_back, some_numbers}
 use Rattle.promise.proofs.Storing.{few_at_most}
-use Rattle.promise.proofs.Timing.{Legal, legal}
+use Rattle.promise.proofs.Timing.{legal}
 use Rattle.path.specs.Bars.{frame_at, far_end, near_end, admitted}
 use Rattle.path.specs.States.{Ends, State}
-use Rattle.ends.specs.Numbers.{one_sent, heard_of, rested, hearing, ahead}
+use Rattle.ends.specs.Numbers.{one_sent, heard_of, rested, ahead}
 use Rattle.path.specs.Steps.{with_sender, with_receiver, with_out, with_back, entry_frame, acknowledgement, room_left, number_in, entry_in, cyclic_in, window_in}
 use Rattle.store.specs.Stores.{at_number, set-number}
 use Rattle.path.specs.declared.entry.Entry.{Entry}

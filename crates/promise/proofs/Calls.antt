@@ -1,6 +1,6 @@
 -- A round counts as the calls it makes.
-use Rattle.std.proofs.Common.{◌≡◌, ℕ, zero, suc, List, [], ◌∷◌, ◌++◌, Ok, sym, ap, subst, append_assoc}
-use Rattle.path.specs.Events.{Event, Step, History, send, resend, arrive, hear, deliver, acknowledge, lose_out, lose_back, tick, then}
+use Rattle.std.proofs.Common.{ℕ, zero, suc, List, [], ◌∷◌, ◌++◌, Ok, sym, subst, append_assoc}
+use Rattle.path.specs.Events.{Event, History, deliver, tick, then}
 use Rattle.path.specs.Rounds.{Ticks, Delivers, Lands, Closes, again, first, stop, Round, tick_events, deliver_events, close_events, round_events}
 use Rattle.path.specs.Rounds as R
 use Rattle.path.specs.States.{State}

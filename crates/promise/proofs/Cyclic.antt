@@ -1,5 +1,5 @@
 -- Cyclic numbers: which whole number a remainder stands for.
-use Rattle.std.proofs.Common.{◌≡◌, ℕ, ◌+◌, ◌-◌, ◌*◌, ◌/◌, ◌%◌, ◌<◌, ◌≤◌, sym, refl, ap, ◌∙◌, mod-lt, le_antisymm, arith}
+use Rattle.std.proofs.Common.{◌≡◌, ℕ, ◌+◌, ◌-◌, ◌*◌, ◌/◌, ◌%◌, ◌<◌, ◌≤◌, sym, ap, ◌∙◌, mod-lt, le_antisymm, arith}
 use native.Mathlib.Nat.{div-add-mod, lt_of_mul-lt-mul_left, mod-mod, add-mod-mod, add-mul-mod_self_left}
 use Rattle.ends.specs.Numbers.{ahead}
 use Rattle.terms.specs.Rules.{RoundedUp}

@@ -1,5 +1,5 @@
 -- What one event more adds to a history, by its kind.
-use Rattle.std.proofs.Common.{◌≡◌, ℕ, ◌+◌, ◌<◌, ◌≤◌, ◌⊎◌, List, [], ◌∷◌, Some, None, Ok, Err, Option, Result, sym, refl, ap, ◌∙◌, subst, inl, inr, arith}
+use Rattle.std.proofs.Common.{◌≡◌, ℕ, ◌+◌, ◌⊎◌, List, ◌∷◌, Some, None, Ok, Err, Option, Result, sym, refl, ap, ◌∙◌, subst, inl, inr, arith}
 use mathlib.Core.List.Memᴰ
 use mathlib.Core.List.{Memᴰ}
 use Rattle.path.specs.Events.{Event, offer, seal, send, resend, arrive, hear, deliver, acknowledge, lose_out, lose_back, tick}
@@ -8,7 +8,7 @@ use Rattle.path.specs.States.{State}
 use Rattle.path.specs.Steps.{entry_frame, acknowledgement, room_left}
 use Rattle.store.specs.Stores.{at_number}
 use Rattle.path.specs.declared.entry.Entry.{Entry}
-use Rattle.path.specs.declared.entry.Entry.TheVariants.{Block, EndMark}
+use Rattle.path.specs.declared.entry.Entry.TheVariants.{EndMark}
 use Rattle.wire.specs.declared.block.Block.{Ghosts}
 use Rattle.wire.specs.declared.frame.Frame.{Frame}
 use Rattle.refusal.specs.declared.refusals.Refusal.{Refusal}

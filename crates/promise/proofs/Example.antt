@@ -1,24 +1,21 @@
 -- The worked history: each step can be taken, and answers what the rules say.
-use Rattle.std.proofs.Common.{◌≡◌, ℕ, ◌+◌, ◌*◌, ◌%◌, ◌<◌, ◌≤◌, Bool, true, false, List, [], ◌∷◌, is_some, Some, None, Ok, Err, Option, Result, sym, refl, ap, ◌∙◌, arith}
+use Rattle.std.proofs.Common.{◌≡◌, ℕ, ◌<◌, ◌≤◌, true, false, List, [], ◌∷◌, is_some, Some, None, Ok, Err, Option, refl, ap, arith}
 use Rattle.carrier.specs.Carriers.{Aged}
-use Rattle.path.specs.Events.{Event, Step, JustMade, History, made, then, offer, send, arrive, hear, deliver, acknowledge}
+use Rattle.path.specs.Events.{Step, JustMade, made, then, offer, send, arrive, hear, deliver, acknowledge}
 use Rattle.promise.specs.Worked.{Worked, Works}
 use Rattle.promise.proofs.Frames.{entry_back}
 use Rattle.path.specs.Bars.{fault_in}
-use Rattle.path.specs.States.{Setting, Ends, State, new_ends}
-use Rattle.path.specs.Steps.{Risen, entry_frame, acknowledgement}
+use Rattle.path.specs.States.{Setting, State}
+use Rattle.path.specs.Steps.{entry_frame, acknowledgement}
 use Rattle.store.specs.Stores.{at_number}
 use Rattle.path.specs.declared.entry.Entry.{Entry}
 use Rattle.path.specs.declared.entry.Entry.TheVariants.{Block, EndMark}
 use Rattle.wire.specs.Ends.{taken_of}
-use Rattle.terms.specs.Rules.{RoundedUp}
 use Rattle.wire.specs.Windows.{window_of}
 use Rattle.wire.specs.declared.block.Block.{Ghosts}
-use Rattle.wire.specs.declared.content.Content.{Content}
 use Rattle.wire.specs.declared.content.Content.TheVariants as content
 use Rattle.wire.specs.declared.content.Head.TheVariants as head
-use Rattle.wire.specs.declared.end.Side.TheVariants.{Sender, Receiver}
-use Rattle.refusal.specs.declared.fault.Fault.{Fault}
+use Rattle.wire.specs.declared.end.Side.TheVariants.{Receiver}
 use Rattle.refusal.specs.declared.refusals.Refusal.TheVariants.{NothingToSend}
 use Rattle.terms.specs.declared.agreed.Terms.{Terms}
 

@@ -1,22 +1,20 @@
 -- What the frames that a path puts are read as.
-use Rattle.std.proofs.Common.{◌≡◌, ℕ, ◌+◌, ◌-◌, ◌*◌, ◌%◌, ◌^◌, ◌<◌, ◌≤◌, Ok, Err, Result, sym, refl, ap, ◌∙◌, mod-lt, arith}
+use Rattle.std.proofs.Common.{◌≡◌, ℕ, ◌+◌, ◌*◌, ◌%◌, ◌^◌, ◌<◌, ◌≤◌, Ok, Result, refl, mod-lt, arith}
 use Rattle.std.proofs.lemmas.Bool.Decides.{nat_tests}
 use Rattle.path.specs.Bars.{admitted}
 use Rattle.path.specs.Steps.{entry_frame, acknowledgement, cyclic_in, window_in, number_in, entry_in}
 use Rattle.path.specs.declared.entry.Entry.{Entry}
 use Rattle.path.specs.declared.entry.Entry.TheVariants.{Block, EndMark}
-use Rattle.wire.specs.Ends.{taken_of, checked_of}
-use Rattle.wire.specs.Frames.{head_of, word_of, content_of}
+use Rattle.wire.specs.Ends.{taken_of}
+use Rattle.wire.specs.Frames.{head_of, word_of}
 use Rattle.wire.specs.Windows.{window_of}
 use Rattle.wire.specs.Words.{zeros}
 use Rattle.wire.specs.declared.content.Content.{Content}
 use Rattle.wire.specs.declared.content.Content.TheVariants as content
 use Rattle.wire.specs.declared.content.Head.{Head}
 use Rattle.wire.specs.declared.content.Head.TheVariants as head
-use Rattle.wire.specs.declared.end.End.{End}
 use Rattle.wire.specs.declared.end.Side.TheVariants.{Sender, Receiver}
 use Rattle.refusal.specs.declared.fault.Fault.{Fault}
-use Rattle.wire.specs.declared.frame.Frame.{Frame}
 use Rattle.wire.specs.declared.words.Words.{Words as Pair}
 
 data_head : (k : ℕ) (w : Pair) → k < 65536 → head_of (record { head = word_of (head.Data k); words = w }) ≡ Ok (head.Data k)

@@ -1,9 +1,9 @@
 -- Hearing an acknowledgement keeps the invariant.
-use Rattle.std.proofs.Common.{◌≡◌, ℕ, ◌+◌, ◌-◌, ◌%◌, ◌<◌, ◌≤◌, min, max, Bool, true, false, cond, eqb, leb, ◌⊎◌, List, [], ◌∷◌, Ok, sym, refl, ap, ◌∙◌, subst, inl, inr, arith}
-use Rattle.std.proofs.lemmas.Bool.Decides.{nat_tests, leb_tells, eqb_tells}
+use Rattle.std.proofs.Common.{◌≡◌, ℕ, ◌+◌, ◌-◌, ◌<◌, ◌≤◌, min, max, true, cond, leb, ◌⊎◌, List, ◌∷◌, Ok, sym, refl, ap, ◌∙◌, subst, inl, inr, arith}
+use Rattle.std.proofs.lemmas.Bool.Decides.{leb_tells, eqb_tells}
 use Rattle.path.specs.Events.{Event, hear}
-use Rattle.promise.proofs.Events.{kind, out_more, back_more, out_before, back_before}
-use Rattle.promise.proofs.Invariant.{Nums, Held, Inv}
+use Rattle.promise.proofs.Events.{out_more, back_more, out_before, back_before}
+use Rattle.promise.proofs.Invariant.{Inv}
 use Rattle.promise.proofs.Later.{held_later, stored_later, booked_later, there_still, sent_still, delivered_still, acc_still, data_later, out_still, back_still, inv_still}
 use Rattle.ends.specs.Numbers.{Sends}
 use Rattle.path.specs.States.{State}

@@ -1,5 +1,5 @@
 -- What every call keeps, in parts: each over just what it speaks of.
-use Rattle.std.proofs.Common.{◌≡◌, ℕ, ◌+◌, ◌%◌, ◌<◌, ◌≤◌, Bool, cond, List, length, get_or, Some, None, Option}
+use Rattle.std.proofs.Common.{◌≡◌, ℕ, ◌+◌, ◌<◌, ◌≤◌, Bool, cond, List, length, get_or, Some, None, Option}
 use Rattle.std.specs.List.{AllByRecursion as All}
 use Rattle.carrier.specs.Carriers.{Aged}
 use Rattle.path.specs.Events.{Event}

@@ -1,9 +1,9 @@
 -- Every call keeps the invariant, so it holds at the end of every history.
-use Rattle.std.proofs.Common.{◌≡◌, ℕ, ◌+◌, ◌-◌, ◌%◌, ◌<◌, ◌≤◌, min, List, [], ◌∷◌, length, get_or, replicate, Some, None, Ok, Err, Option, Result, sym, refl, ap, ◌∙◌, subst, mod-lt, arith}
+use Rattle.std.proofs.Common.{◌≡◌, ℕ, ◌+◌, ◌<◌, ◌≤◌, min, List, [], ◌∷◌, length, get_or, replicate, Some, None, Ok, Err, Option, sym, refl, ap, ◌∙◌, subst, mod-lt, arith}
 use mathlib.Core.List.Memᴰ
 use native.Mathlib.Decide.{dec_lt}
 use lib.ListN.{length-replicate, get_or-replicate}
-use Rattle.carrier.specs.Carriers.{Aged, no_frame}
+use Rattle.carrier.specs.Carriers.{no_frame}
 use Rattle.path.specs.Events.{Event, Step, JustMade, Fresh, History, offer, seal, send, resend, arrive, hear, deliver, acknowledge, lose_out, lose_back, tick, made, then}
 use Rattle.promise.specs.Vocabulary.{takes_ticks, rises, Accepted, by_offer, by_seal, Ago, PutsOut, PutsBack}
 use Rattle.promise.proofs.Accepting.{keeps_offer, keeps_seal}
@@ -16,17 +16,15 @@ use Rattle.promise.proofs.Reading.{out_traced, read_under, entry_is, heeded_low}
 use Rattle.promise.proofs.Sending.{keeps_send, keeps_resend, keeps_acknowledge, keeps_lose_out, keeps_lose_back, keeps_tick}
 use Rattle.promise.proofs.Settings.{setting_kept}
 use Rattle.promise.proofs.Storing.{keeps_take, keeps_deliver}
-use Rattle.promise.proofs.Timing.{Legal, legal}
-use Rattle.path.specs.Bars.{frame_at, far_end, past_book}
+use Rattle.promise.proofs.Timing.{legal}
+use Rattle.path.specs.Bars.{frame_at, past_book}
 use Rattle.path.specs.States.{Setting, Ends, State, new_ends}
 use Rattle.ends.specs.Numbers.{ahead}
-use Rattle.path.specs.Steps.{room_left, number_in, entry_in, cyclic_in, window_in, booked, Risen}
-use Rattle.store.specs.Stores.{at_number, set-number}
+use Rattle.path.specs.Steps.{entry_in, cyclic_in, window_in, booked, Risen}
+use Rattle.store.specs.Stores.{at_number}
 use Rattle.path.specs.declared.entry.Entry.{Entry}
 use Rattle.wire.specs.declared.block.Block.{Ghosts}
-use Rattle.wire.specs.declared.content.Content.{Content}
 use Rattle.wire.specs.declared.frame.Frame.{Frame}
-use Rattle.refusal.specs.declared.refusals.Refusal.{Refusal}
 
 -- a state by its parts
 pub placed : {B : Type 0} (M : State B → Type 0) (s : State B) (ends : Ends) (kept : List (Entry B)) (got : List (Option (Entry B))) (book : List B) → s.ends ≡ ends → s.kept ≡ kept → s.got ≡ got → s.book ≡ book

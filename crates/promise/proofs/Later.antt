@@ -1,13 +1,13 @@
 -- What holds of a history holds with one event more that adds nothing to it.
-use Rattle.std.proofs.Common.{◌≡◌, ℕ, ◌+◌, ◌%◌, ◌<◌, ◌≤◌, List, [], ◌∷◌, Option, sym, refl, ap, ◌∙◌, subst, arith}
+use Rattle.std.proofs.Common.{◌≡◌, ℕ, List, ◌∷◌, Option, arith}
 use mathlib.Core.List.Memᴰ
 use Rattle.std.proofs.ByRecursion.{All-weaker}
 use Rattle.std.specs.List.{AllByRecursion as All}
 use Rattle.carrier.specs.Carriers.{Aged}
 use Rattle.path.specs.Events.{Event}
-use Rattle.promise.specs.Vocabulary.{takes_ticks, rises, Accepted, Sent, Delivered, AtReceiver, heard, ExactlyBelow}
+use Rattle.promise.specs.Vocabulary.{takes_ticks, rises, Sent, Delivered, ExactlyBelow}
 use Rattle.promise.proofs.Events.{kind, accepted_later, accepted_before, sent_before, delivered_before, there_later, there_before, out_more, back_more, out_later, back_later, out_before, back_before}
-use Rattle.promise.proofs.Invariant.{Traced, AckPut, Held, Stored, Booked, There, Acc, DataPut, Inv}
+use Rattle.promise.proofs.Invariant.{Traced, Held, Stored, Booked, There, Acc, DataPut, Inv}
 use Rattle.path.specs.States.{State}
 use Rattle.path.specs.declared.entry.Entry.{Entry}
 use Rattle.wire.specs.declared.block.Block.{Ghosts}

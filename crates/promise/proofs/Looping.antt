@@ -1,11 +1,10 @@
 -- Ticks, deliveries and turns one more at a time, as loops make them.
-use Rattle.std.proofs.Common.{◌≡◌, ℕ, zero, suc, ◌+◌, ◌<◌, ◌≤◌, List, [], ◌∷◌, ◌++◌, length, get_or, take, set, Some, Ok, Result, sym, refl, ap, ◌∙◌, subst, arith, take_all}
+use Rattle.std.proofs.Common.{◌≡◌, ℕ, zero, suc, ◌+◌, ◌<◌, ◌≤◌, List, [], ◌∷◌, ◌++◌, length, get_or, take, set, Some, Ok, Result, sym, refl, ap, subst, arith, take_all}
 use Rattle.std.proofs.lemmas.List.{take_more_set}
 use Rattle.path.specs.Events.{Event, Step, deliver, tick}
 use Rattle.path.specs.Rounds as R
 use Rattle.path.specs.Rounds.{Ticks, Delivers}
 use Rattle.promise.specs.Turns.{Turning, Played, calls_of}
-use Rattle.promise.specs.declared.call.Call.{Call}
 use Rattle.promise.specs.declared.call.Turn.{Turn}
 use Rattle.promise.proofs.Playing.{played_more}
 use Rattle.path.specs.Bars.{deliver_bar}

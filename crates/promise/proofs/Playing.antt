@@ -1,5 +1,5 @@
 -- Turns that are played are a history, and come through where they end with ticks and rounds.
-use Rattle.std.proofs.Common.{◌≡◌, ℕ, zero, suc, ◌+◌, ◌-◌, List, [], ◌∷◌, ◌++◌, Some, None, Ok, Err, Option, Result, sym, refl, ap, ◌∙◌, subst, append_assoc, append-nil}
+use Rattle.std.proofs.Common.{◌≡◌, ℕ, zero, suc, List, [], ◌∷◌, ◌++◌, Ok, Err, Result, sym, refl, ap, ◌∙◌, subst, append_assoc, append-nil}
 use Rattle.path.specs.Events as event
 use Rattle.path.specs.Events.{Event, Step, JustMade, History, Fresh, made, then}
 use Rattle.promise.specs.Promise.{Promise, Promised}

@@ -1,24 +1,23 @@
 -- A frame is read under the number that it was put with, and is never malformed.
-use Rattle.std.proofs.Common.{◌≡◌, ℕ, ◌+◌, ◌-◌, ◌%◌, ◌<◌, ◌≤◌, List, length, get_or, Ok, Err, Result, sym, refl, ap, ◌∙◌, subst, arith}
+use Rattle.std.proofs.Common.{◌≡◌, ℕ, ◌+◌, ◌-◌, ◌%◌, ◌<◌, ◌≤◌, List, length, get_or, Ok, Result, sym, ap, ◌∙◌, subst, arith}
 use Rattle.std.proofs.ByRecursion.{All-get_or}
-use Rattle.carrier.specs.Carriers.{Aged, no_frame}
+use Rattle.carrier.specs.Carriers.{no_frame}
 use Rattle.path.specs.Events.{Event}
 use Rattle.promise.specs.Vocabulary.{Accepted}
 use Rattle.promise.proofs.Cyclic.{read_as}
 use Rattle.promise.proofs.Frames.{entry_content, Back, entry_back, Read, ack_back, number_of, entry_of}
-use Rattle.promise.proofs.Invariant.{Traced, AckPut, DataPut, Nums, Inv}
-use Rattle.promise.proofs.Timing.{Legal, legal, recent}
+use Rattle.promise.proofs.Invariant.{Traced, Inv}
+use Rattle.promise.proofs.Timing.{legal, recent}
 use Rattle.path.specs.Bars.{frame_at, far_end, near_end, admitted}
 use Rattle.path.specs.States.{State}
 use Rattle.ends.specs.Numbers.{ahead}
-use Rattle.path.specs.Steps.{room_left, number_in, entry_in, cyclic_in, window_in, entry_frame, acknowledgement}
+use Rattle.path.specs.Steps.{room_left, number_in, entry_in, cyclic_in}
 use Rattle.path.specs.declared.entry.Entry.{Entry}
 use Rattle.path.specs.declared.entry.Entry.TheVariants.{Block, EndMark}
 use Rattle.wire.specs.Ends.{taken_of}
 use Rattle.wire.specs.declared.block.Block.{Ghosts}
 use Rattle.wire.specs.declared.content.Content.{Content}
 use Rattle.wire.specs.declared.content.Head.{Head}
-use Rattle.refusal.specs.declared.fault.Fault.{Fault}
 use Rattle.wire.specs.declared.frame.Frame.{Frame}
 
 pub same_ok : {R X : Type 0} (x : Result R X) (r r' : R) → x ≡ Ok r → x ≡ Ok r' → r ≡ r'

@@ -1,26 +1,24 @@
 -- What the invariant says in the words of a history.
-use Rattle.std.proofs.Common.{◌≡◌, ℕ, ◌+◌, ◌-◌, ◌%◌, ◌<◌, ◌≤◌, Bool, true, false, cond, eqb, ◌⊎◌, List, [], ◌∷◌, length, get_or, Some, None, Ok, Option, sym, refl, ap, ◌∙◌, subst, inl, inr, arith}
+use Rattle.std.proofs.Common.{◌≡◌, ℕ, ◌+◌, ◌-◌, ◌≤◌, Bool, true, false, cond, eqb, List, get_or, Ok, sym, refl, ap, ◌∙◌, subst, inl, inr, arith}
 use native.Mathlib.Decide.{dec_lt}
-use Rattle.std.proofs.lemmas.Bool.Decides.{nat_tests, eqb_tells}
+use Rattle.std.proofs.lemmas.Bool.Decides.{eqb_tells}
 use Rattle.carrier.specs.Carriers.{no_frame}
-use Rattle.path.specs.Events.{Event, Step, History, Fresh, arrive, hear}
+use Rattle.path.specs.Events.{Event, History, Fresh}
 use Rattle.promise.specs.Promise.{NumbersInOrder, NumbersCount, InBook, OutcomeTrue, ReadRight}
-use Rattle.promise.specs.Vocabulary.{Accepted, Sent, Delivered, AtReceiver, InSequence, heard, ExactlyBelow, PutsOut, PutsBack, Ago, Under}
+use Rattle.promise.specs.Vocabulary.{Accepted, Sent, AtReceiver, InSequence, ExactlyBelow, PutsOut, PutsBack, Ago}
 use Rattle.promise.proofs.Gates.{arrive_open, hear_open}
 use Rattle.promise.proofs.Invariant.{AtBook, Inv}
 use Rattle.promise.proofs.Keeps.{holds}
 use Rattle.promise.proofs.Reading.{out_traced, read_under, back_traced, heard_under}
-use Rattle.path.specs.Bars.{frame_at, near_end, admitted}
+use Rattle.path.specs.Bars.{frame_at}
 use Rattle.path.specs.States.{Ends, State}
 use Rattle.ends.specs.Numbers.{ahead}
 use Rattle.path.specs.Steps.{cyclic_in, outcome_of}
-use Rattle.store.specs.Stores.{at_number}
 use Rattle.path.specs.declared.entry.Entry.{Entry}
 use Rattle.path.specs.declared.entry.Entry.TheVariants.{Block}
 use Rattle.ends.specs.declared.outcome.Outcome.{Outcome}
 use Rattle.ends.specs.declared.outcome.Outcome.TheVariants.{Complete, Unsure}
 use Rattle.wire.specs.declared.block.Block.{Ghosts}
-use Rattle.wire.specs.declared.content.Head.{Head}
 use Rattle.wire.specs.declared.frame.Frame.{Frame}
 
 unsure_not_complete : (a c d : ℕ) → Unsure a c d ≡ Complete → ⊥

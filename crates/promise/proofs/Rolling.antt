@@ -1,12 +1,12 @@
 -- Rounds bring every accepted entry through.
-use Rattle.std.proofs.Common.{◌≡◌, ℕ, zero, suc, ◌+◌, ◌-◌, ◌%◌, ◌<◌, ◌≤◌, min, Bool, true, false, leb, ◌⊎◌, List, [], ◌∷◌, ◌++◌, length, get_or, set, Some, None, Ok, Err, Option, Result, sym, refl, ap, ◌∙◌, subst, inl, inr, ⊎_elim, add-one, arith, length-set}
+use Rattle.std.proofs.Common.{◌≡◌, ℕ, zero, suc, ◌+◌, ◌-◌, ◌<◌, ◌≤◌, min, false, ◌⊎◌, List, [], ◌∷◌, length, Some, None, Ok, Err, Option, Result, sym, refl, ap, ◌∙◌, subst, inl, inr, ⊎_elim, add-one, arith, length-set}
 use native.Mathlib.Decide.{dec_lt}
 use Rattle.std.proofs.ByRecursion.{All-weaker}
 use Rattle.std.proofs.lemmas.Bool.Decides.{nat_tests}
 use Rattle.std.specs.List.{AllByRecursion as All}
-use Rattle.carrier.specs.Carriers.{Aged, ticked}
+use Rattle.carrier.specs.Carriers.{Aged}
 use Rattle.path.specs.Events.{Event, Step, History, Fresh, send, resend, arrive, hear, deliver, acknowledge, lose_out, lose_back, tick, then}
-use Rattle.promise.specs.Promise.{BothEmpty, BookLong, AllThrough, Progress, InBook}
+use Rattle.promise.specs.Promise.{BothEmpty, BookLong, Progress, InBook}
 use Rattle.path.specs.Rounds.{Ticks, Delivers, Opens, Lands, Closes, again, first, stop, Round, round_bar, Rounded, Rounds}
 use Rattle.path.specs.Rounds as R
 use Rattle.promise.specs.Vocabulary.{Accepted, Ago, PutsOut, PutsBack}
@@ -18,7 +18,7 @@ use Rattle.promise.proofs.Keeps.{holds}
 use Rattle.promise.proofs.Places.{all_ticked, none_left}
 use Rattle.promise.proofs.Right.{in_book}
 use Rattle.promise.proofs.Settings.{setting_kept}
-use Rattle.promise.proofs.Timing.{Legal, legal}
+use Rattle.promise.proofs.Timing.{legal}
 use Rattle.path.specs.Bars.{past_book, deliver_bar}
 use Rattle.ends.specs.Numbers.{Sends}
 use Rattle.path.specs.States.{Setting, Ends, State}
@@ -28,7 +28,6 @@ use Rattle.store.specs.Stores.{at_number}
 use Rattle.path.specs.declared.entry.Entry.{Entry}
 use Rattle.path.specs.declared.entry.Entry.TheVariants.{Block, EndMark}
 use Rattle.wire.specs.declared.block.Block.{Ghosts}
-use Rattle.wire.specs.declared.frame.Frame.{Frame}
 use Rattle.refusal.specs.declared.refusals.Refusal.{Refusal}
 
 length-booked : {B : Type 0} (o : Option (Entry B)) (nd : ℕ) (book : List B) → length (booked o nd book) ≡ length book

@@ -1,5 +1,5 @@
 -- Sends, resends and acknowledges keep the invariant, and so do losses and ticks.
-use Rattle.std.proofs.Common.{◌≡◌, ℕ, ◌+◌, ◌-◌, ◌%◌, ◌<◌, ◌≤◌, min, ◌⊎◌, List, [], ◌∷◌, length, None, Ok, Option, sym, refl, ap, ◌∙◌, subst, inl, inr, arith}
+use Rattle.std.proofs.Common.{◌≡◌, ℕ, ◌+◌, ◌<◌, List, ◌∷◌, None, Ok, Option, refl, ap, inl, inr, arith}
 use mathlib.Core.List.Memᴰ
 use mathlib.Core.List.{Memᴰ}
 use native.Mathlib.Decide.{dec_lt}
@@ -7,12 +7,12 @@ use Rattle.std.specs.List.{remove, AllByRecursion as All}
 use Rattle.carrier.specs.Carriers.{Aged, Joined, ticked}
 use Rattle.path.specs.Events.{Event, send, resend, acknowledge, lose_out, lose_back, tick}
 use Rattle.promise.specs.Vocabulary.{takes_ticks, Accepted, Sent, AtReceiver, ExactlyBelow, by_send, by_resend, by_acknowledge}
-use Rattle.promise.proofs.Events.{kind, out_more, back_more, out_before, back_before, send_cases, resend_cases, acknowledge_cases, sent_before, accepted_later}
+use Rattle.promise.proofs.Events.{out_more, back_more, out_before, back_before, send_cases, resend_cases, acknowledge_cases, accepted_later}
 use Rattle.promise.proofs.Gates.{send_open, resend_open}
-use Rattle.promise.proofs.Invariant.{Nums, Traced, AckPut, DataPut, Stored, There, Inv}
+use Rattle.promise.proofs.Invariant.{Traced, Stored, Inv}
 use Rattle.promise.proofs.Later.{held_later, stored_later, booked_later, there_still, sent_still, delivered_still, acc_still, data_later, out_still, back_still, inv_still}
 use Rattle.promise.proofs.Places.{all_joined, all_struck, all_ticked}
-use Rattle.promise.proofs.Timing.{Legal, legal, timed_new, timed_send, timed_tick}
+use Rattle.promise.proofs.Timing.{legal, timed_new, timed_send, timed_tick}
 use Rattle.path.specs.Bars.{send_bar, resend_bar}
 use Rattle.path.specs.States.{State}
 use Rattle.ends.specs.Numbers.{one_sent, rested}

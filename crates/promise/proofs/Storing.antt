@@ -1,19 +1,19 @@
 -- Arrivals and deliveries keep the invariant.
-use Rattle.std.proofs.Common.{◌≡◌, ℕ, ◌+◌, ◌-◌, ◌%◌, ◌<◌, ◌≤◌, min, Bool, true, false, cond, ◌⊎◌, List, [], ◌∷◌, length, get_or, set, is_some, Some, None, Ok, Option, sym, refl, ap, ◌∙◌, subst, inl, inr, arith, length-set, get_or-set_other, get_or-set_same}
+use Rattle.std.proofs.Common.{◌≡◌, ℕ, ◌+◌, ◌-◌, ◌%◌, ◌<◌, ◌≤◌, min, Bool, true, false, ◌⊎◌, List, ◌∷◌, length, is_some, Some, None, Ok, Option, sym, refl, ap, ◌∙◌, subst, inl, inr, arith, length-set, get_or-set_other, get_or-set_same}
 use mathlib.Core.List.Memᴰ
 use mathlib.Core.List.{Memᴰ}
 use native.Mathlib.Nat.{add-mod_right}
 use native.Mathlib.Decide.{dec_lt}
 use Rattle.std.proofs.lemmas.Bool.Decides.{nat_tests}
 use Rattle.path.specs.Events.{Event, arrive, deliver}
-use Rattle.promise.specs.Vocabulary.{takes_ticks, Accepted, Delivered, AtReceiver, ExactlyBelow}
+use Rattle.promise.specs.Vocabulary.{Accepted, Delivered, AtReceiver, ExactlyBelow}
 use Rattle.promise.proofs.Cyclic.{window_unique}
-use Rattle.promise.proofs.Events.{kind, out_more, back_more, out_before, back_before, accepted_later, there_later, there_before, delivered_before}
-use Rattle.promise.proofs.Invariant.{Nums, Few, AckPut, Stored, There, AtBook, Booked, Acc, Inv}
-use Rattle.promise.proofs.Later.{held_later, stored_later, booked_later, there_still, sent_still, delivered_still, acc_still, data_later, out_still, back_still}
+use Rattle.promise.proofs.Events.{kind, out_more, back_more, out_before, back_before, accepted_later, there_later, there_before}
+use Rattle.promise.proofs.Invariant.{Few, Stored, There, AtBook, Inv}
+use Rattle.promise.proofs.Later.{held_later, booked_later, there_still, sent_still, delivered_still, acc_still, data_later, out_still, back_still}
 use Rattle.promise.proofs.Places.{rewritten}
-use Rattle.promise.proofs.Timing.{Legal, legal}
-use Rattle.path.specs.Bars.{past_book, deliver_bar}
+use Rattle.promise.proofs.Timing.{legal}
+use Rattle.path.specs.Bars.{past_book}
 use Rattle.path.specs.States.{State}
 use Rattle.ends.specs.Numbers.{one_delivered}
 use Rattle.path.specs.Steps.{with_receiver, booked, Risen}

@@ -1,5 +1,5 @@
 -- What holds of every history of a path.
-use Rattle.std.specs.Prelude.{◌≡◌, ℕ, ◌+◌, ◌-◌, ◌<◌, ◌≤◌, List, [], ◌++◌, length, get_or, Some, None, Ok, Option, ◌≢◌, slice_index_or}
+use Rattle.std.specs.Prelude.{◌≡◌, ℕ, ◌+◌, ◌-◌, ◌<◌, ◌≤◌, List, [], ◌++◌, length, get_or, Some, None, Ok, ◌≢◌, slice_index_or}
 use mathlib.Core.List.{Memᴰ}
 use Rattle.carrier.specs.Carriers.{no_frame}
 use Rattle.path.specs.Events.{Event, Step, History, Fresh, arrive, hear}

@@ -1,6 +1,6 @@
 -- One history worked out: a block goes through, with a send that is refused and a frame that is ignored on the way.
-use Rattle.std.specs.Prelude.{◌≡◌, List, [], ◌∷◌, Some, None, Ok, Err}
-use Rattle.path.specs.Events.{Event, History, offer, send, arrive, hear, deliver, acknowledge}
+use Rattle.std.specs.Prelude.{◌≡◌, [], ◌∷◌, Some, None, Ok, Err}
+use Rattle.path.specs.Events.{History, offer, send, arrive, hear, deliver, acknowledge}
 use Rattle.path.specs.States.{State}
 use Rattle.path.specs.Steps.{outcome_of}
 use Rattle.ends.specs.declared.outcome.Outcome.TheVariants.{Unsure}

@@ -1,16 +1,15 @@
 -- The fault that a reader names is the first in the order of check. Assumes nothing.
-use Rattle.std.proofs.Common.{◌≡◌, ℕ, ◌^◌, ◌<◌, ◌≤◌, Bool, true, false, ◌⊎◌, IfErr, Ok, Err, Result, sym, refl, ap, ◌∙◌, subst, inl, inr, arith, rules}
+use Rattle.std.proofs.Common.{◌≡◌, ℕ, ◌^◌, ◌<◌, ◌≤◌, Bool, true, false, ◌⊎◌, IfErr, Ok, Err, Result, sym, refl, ap, ◌∙◌, subst, inl, inr, arith}
 use Rattle.std.proofs.lemmas.Bool.Decides.{nat_tests, leb_tells}
 use Rattle.wire.specs.Ends.{checked_of, taken_of, onward, after_head, takes, number_in}
-use Rattle.refusal.specs.Faults.{cause_number, block_fault, end_fault, no_kind, not_zero}
-use Rattle.wire.specs.FirstFault.{stray_of, takes_kind, Wrong, First}
+use Rattle.refusal.specs.Faults.{block_fault, end_fault, no_kind, not_zero}
+use Rattle.wire.specs.FirstFault.{stray_of, takes_kind, First}
 use Rattle.wire.specs.Frames.{kind_of, number_of, head_of, filled}
 use Rattle.wire.specs.declared.content.Content.{Content}
 use Rattle.wire.specs.declared.content.Head.{Head}
 use Rattle.wire.specs.declared.content.Head.TheVariants.{Data, Acknowledgement, EndMark}
 use Rattle.wire.specs.declared.end.End.{End}
 use Rattle.wire.specs.declared.end.Side.{Side}
-use Rattle.refusal.specs.declared.fault.Cause.{Cause}
 use Rattle.refusal.specs.declared.fault.Cause.TheVariants.{NoKind, NotZero, KindNotTaken, NumberTooLarge, BlockRefused}
 use Rattle.refusal.specs.declared.fault.Fault.{Fault}
 use Rattle.wire.specs.declared.frame.Frame.{Frame}

@@ -2,7 +2,7 @@
 use Rattle.std.proofs.Common.{◌≡◌, ℕ, ◌+◌, ◌*◌, ◌^◌, ◌<◌, arith}
 use mathlib.Core.HLevel.{is_prop→PathP}
 use native.Mathlib.Bridge.{le_prop}
-use Rattle.wire.specs.Windows.{middle_of, window_of}
+use Rattle.wire.specs.Windows.{window_of}
 use Rattle.wire.specs.declared.window.Window.{Window}
 
 pub same_width : (v w : Window) → v.size ≡ w.size → v ≡ w

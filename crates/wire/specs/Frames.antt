@@ -1,5 +1,5 @@
 -- A frame as words, and what it says.
-use Rattle.std.specs.Prelude.{ℕ, ◌+◌, ◌*◌, ◌/◌, ◌%◌, ◌^◌, ◌<◌, cond, Ok, Err, Result, ◌==◌}
+use Rattle.std.specs.Prelude.{ℕ, ◌+◌, ◌*◌, ◌/◌, ◌%◌, ◌^◌, cond, Ok, Err, Result, ◌==◌}
 use Rattle.refusal.specs.Faults.{no_kind, not_zero}
 use Rattle.wire.specs.Windows.{middle_of, window_of}
 use Rattle.wire.specs.Words.{zeros}

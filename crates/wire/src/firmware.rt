@@ -33,12 +33,7 @@ pub fn transfer_frame_fault(bytes: &[u8]) -> u8
 }
 
 // The least count of numbers for four terms, also above 65,536; 0 where one is out of range.
-pub fn transfer_least_numbers(
-    send_window: u32,
-    receive_window: u32,
-    lifetime: u32,
-    gap: u32,
-) -> u32
+pub fn transfer_least_numbers(send_window: u32, receive_window: u32, lifetime: u32, gap: u32) -> u32
     ensures { LeastOr0 send_window receive_window lifetime gap result }
 {
     match least_numbers(send_window, receive_window, lifetime, gap) {
