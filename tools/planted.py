@@ -5,7 +5,7 @@
     tools/planted.py try FOLDER TABLE [CRATE...] [--lane I/N] [--most N]
     tools/planted.py page TABLE...
 
-`list` prints the changes. `page` prints tables as docs/PLANTED.md has them. `try` works in FOLDER, a copy of the repository whose crates `rt dev` has checked before
+`list` prints the changes. `page` prints tables as docs/PLANTED.md has them. `try` works in FOLDER, a copy of the repository whose crates `rt check` has checked before
 (it is made if it is not there), and appends a line for each change to TABLE; changes that TABLE already has are left out.
 
 Changes are made by rule, not by hand, from the bodies of the functions: a comparison, an operator, a constant, a variant, a field or
@@ -102,10 +102,10 @@ def functions(lines):
 
 
 def trait_impl(lines, i):
-    """Whether line i stands in an impl of a trait that is passed on."""
+    """Whether line i stands in an impl of a trait."""
     for line in reversed(lines[:i]):
-        if re.match(r"(pub )?impl", line):
-            return line.startswith("pub impl")
+        if line.startswith("impl"):
+            return " for " in line
         if line.startswith("}"):
             return False
     return False
@@ -245,13 +245,23 @@ RUN = ("inspect", "run_script", "station", "speed", "lawful")
 
 def ran(folder, crate):
     """Whether what is proved also runs as it should."""
-    run = subprocess.run(["rt", "check", crate], cwd=folder, capture_output=True, text=True)
-    return ("SURVIVED", "-") if run.returncode == 0 else ("refused", "its run" if crate != "lawful" else "its tests")
+    where = os.path.join(folder, "crates", crate)
+    if crate == "lawful":
+        run = subprocess.run(["rt", "test"], cwd=where, capture_output=True, text=True)
+        return ("SURVIVED", "-") if run.returncode == 0 else ("refused", "its tests")
+    kept = {}
+    for name in ("args", "stdin", "stdout"):
+        path = os.path.join(where, name)
+        kept[name] = open(path, encoding="utf-8").read() if os.path.exists(path) else ""
+    words = ["--"] + kept["args"].split() if kept["args"] else []
+    run = subprocess.run(["rt", "run"] + words, cwd=where, input=kept["stdin"], capture_output=True, text=True)
+    as_it_should = run.returncode == 0 and run.stdout == kept["stdout"]
+    return ("SURVIVED", "-") if as_it_should else ("refused", "its run")
 
 
 def verdict(folder, crate):
     """Where the check of the changed crate first fails: (refused | survived | no program, where)."""
-    run = subprocess.run(["rt", "dev", crate], cwd=folder, capture_output=True, text=True)
+    run = subprocess.run(["rt", "check"], cwd=os.path.join(folder, "crates", crate), capture_output=True, text=True)
     out = run.stdout + run.stderr
     said = re.findall(r"^logic=(proved|not-proved)", out, re.M)
     if said[-1:] == ["proved"]:
@@ -259,7 +269,7 @@ def verdict(folder, crate):
     if said[-1:] != ["not-proved"]:
         m = re.search(r"error\[([\w-]+)\]", out)
         return "no program", m.group(1) if m else "exit %d" % run.returncode
-    where = r"\S*crates/%s/((?:src|proofs|specs)/\S+?:\d+):\d+: " % crate
+    where = r"(?:\./)?((?:src|proofs|specs)/\S+?:\d+):\d+: "
     m = re.search("^" + where + "error", out, re.M) or re.search("^note: " + where + "it is not proved", out, re.M)
     return "refused", m.group(1) if m else "?"
 
@@ -282,8 +292,6 @@ def copy_to(folder):
     shutil.rmtree(os.path.join(folder, "crates"), ignore_errors=True)
     shutil.copytree(os.path.join(ROOT, "crates"), os.path.join(folder, "crates"))
     shutil.copy(os.path.join(ROOT, "crates.txt"), folder)
-    if not os.path.isdir(os.path.join(folder, "target")):
-        shutil.copytree(os.path.join(ROOT, "target"), os.path.join(folder, "target"))
 
 
 def page(tables):
@@ -320,7 +328,7 @@ def main():
     if not words or words[0] not in ("list", "try"):
         sys.exit(__doc__)
     skip = 3 if words[0] == "try" else 1
-    crates = words[skip:] or [l.split(":")[0] for l in open(os.path.join(ROOT, "crates.txt")) if ":" in l and not l.startswith("#")]
+    crates = words[skip:] or [l.split(":")[0].split()[0] for l in open(os.path.join(ROOT, "crates.txt")) if ":" in l and not l.startswith("#")]
     if words[0] == "list":
         for crate in crates:
             for rank, c in chosen(crate, most):

@@ -3,7 +3,7 @@
 
     tools/speed.py [OURS THEIRS]
 
-Without arguments it takes target/bin/speed and target/twin/release/speed. It prints the tables of docs/SPEED.md, and
+Without arguments it takes crates/speed/out/speed and target/twin/release/speed. It prints the tables of docs/SPEED.md, and
 ends with status 1 where two checksums differ.
 """
 import re
@@ -40,7 +40,7 @@ def head(name, what):
 
 
 def main():
-    programs = sys.argv[1:] or ["target/bin/speed", "target/twin/release/speed"]
+    programs = sys.argv[1:] or ["crates/speed/out/speed", "target/twin/release/speed"]
     head("a million blocks", "instructions")
     for way in ("shelves", "log"):
         row("`%s`" % way, *both(programs, [way]))

@@ -1,8 +1,8 @@
 -- Each word of a script counts once. Assumes nothing.
-use Rattle.std.proofs.Common.{◌≡◌, ℕ, ◌+◌, ◌*◌, true, false, cond, eqb, List, Ok, Err, Result, sym, refl, ap, ◌∙◌, ap₂, add-one, arith}
+use Rattle.std.proofs.Common.{◌≡◌, ℕ, ◌+◌, ◌*◌, List, Ok, Err, Result, sym, refl, ap, ◌∙◌, ap₂, add-one, arith}
 use Rattle.std.proofs.lemmas.Bool.Decides.{nat_tests}
-use Rattle.decode.specs.Decoding.{Script, termed, due_then, called, offered, commanded, by_phase, stepped, word_at, read_to}
-use Rattle.decode.specs.Words.{kind_of, meaning_of}
+use Rattle.decode.specs.Decoding.{Script, termed, due_then, offered, by_phase, stepped, word_at, read_to}
+use Rattle.decode.specs.Words.{meaning_of}
 use Rattle.decode.specs.declared.phase.Phase.{Phase}
 use Rattle.decode.specs.declared.phase.Phase.TheVariants.{Terms, Calls, First, Second, Ended, Bad}
 use Rattle.decode.specs.declared.word.Due.{Due}

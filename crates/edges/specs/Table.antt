@@ -9,7 +9,6 @@ use Rattle.wire.specs.declared.command.Command.{Command}
 use Rattle.wire.specs.declared.command.Command.TheVariants.{Stop}
 use Rattle.wire.specs.declared.content.Content.{Content}
 use Rattle.wire.specs.declared.content.Content.TheVariants.{Data, Acknowledgement, EndMark}
-use Rattle.wire.specs.declared.frame.Frame.{Frame}
 use Rattle.refusal.specs.declared.refusals.Refusal.TheVariants.{TooFewNumbers}
 use Rattle.wire.specs.declared.window.Window.{Window}
 

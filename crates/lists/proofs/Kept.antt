@@ -49,8 +49,8 @@ module _ {X : Type 0} (p : X → Bool) where
     split_yes ok = kept_split ∙ ap (λ l. filter p (take i xs) ++ l) (kept_yes x (drop (i + 1) xs) ok)
 
     -- one that passes stands behind as many as pass before it
-    pub get_d_kept : (k : ℕ) (z : X) → p x ≡ true → length (filter p (take i xs)) ≡ k → get_or (filter p xs) k z ≡ x
-    get_d_kept k z ok n = ap (λ l. get_or l k z) (split_yes ok) ∙ get_or_at (filter p (take i xs)) x (filter p (drop (i + 1) xs)) z k n
+    pub get_or-kept : (k : ℕ) (z : X) → p x ≡ true → length (filter p (take i xs)) ≡ k → get_or (filter p xs) k z ≡ x
+    get_or-kept k z ok n = ap (λ l. get_or l k z) (split_yes ok) ∙ get_or_at (filter p (take i xs)) x (filter p (drop (i + 1) xs)) z k n
 
     pub below_kept : p x ≡ true → length (filter p (take i xs)) < length (filter p xs)
     below_kept ok = omega (arith, ap length (split_yes ok), length-append (filter p (take i xs)) (x ∷ filter p (drop (i + 1) xs)))

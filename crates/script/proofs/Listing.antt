@@ -1,5 +1,5 @@
 -- One line more of a list of calls. Assumes nothing.
-use Rattle.std.proofs.Common.{◌≡◌, ℕ, suc, ◌+◌, ◌<◌, ◌≤◌, List, [], ◌∷◌, ◌++◌, length, get_or, take, sym, refl, ap, ◌∙◌, append_assoc, add-zero, arith, length-take-le, take_all}
+use Rattle.std.proofs.Common.{◌≡◌, ℕ, ◌+◌, ◌<◌, ◌≤◌, List, [], ◌∷◌, ◌++◌, length, get_or, take, sym, ap, ◌∙◌, append_assoc, add-zero, arith, length-take-le, take_all}
 use Rattle.std.proofs.lemmas.List.{take_more}
 use Rattle.promise.specs.declared.call.Turn.{Turn}
 use Rattle.lines.specs.Lines.{line_of, lines_from}

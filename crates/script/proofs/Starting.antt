@@ -1,5 +1,5 @@
 -- A script's path is made over empty shelves, so its making is accepted. Assumes nothing.
-use Rattle.std.proofs.Common.{◌≡◌, ℕ, min, max, List, [], length, replicate, Some, None, Option, sym, refl, ap, ◌∙◌, subst, arith}
+use Rattle.std.proofs.Common.{◌≡◌, ℕ, min, max, List, [], length, replicate, None, Option, ap, ◌∙◌, subst, arith}
 use lib.ListN.{length-replicate}
 use Rattle.std.proofs.lemmas.Bool.Decides.{nat_tests}
 use Rattle.carrier.specs.Carriers.{Aged}

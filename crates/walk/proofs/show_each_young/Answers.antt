@@ -1,7 +1,7 @@
 use Rattle.std.proofs.Common.{length, filter, sym, refl, ap, arith}
 use Rattle.std.proofs.lemmas.List.{take_all}
 use Rattle.std.proofs.lemmas.Bool.{lt-ltb, le-ltb}
-use Rattle.lists.proofs.Kept.{get_d_kept, below_kept, count_yes, count_no}
+use Rattle.lists.proofs.Kept.{get_or-kept, below_kept, count_yes, count_no}
 use Rattle.carrier.specs.Carriers.{under, no_frame}
 use Rattle.walk.proofs.show_each_young.Goals as goal
 use Rattle.walk.proofs.show_each_young.Goals.{then-age-life+else-young-place, else-age-life}
@@ -14,7 +14,7 @@ returns-then-young-place g c =
     let x = c.at-age.result in
     let ok = lt-ltb x.1 c.args.life c.if-age-life.true in (
       omega (arith, below_kept p l i x no_frame (omega arith) c.at-age.ensures ok),
-      sym (get_d_kept p l i x no_frame (omega arith) c.at-age.ensures c.args.place no_frame ok (omega arith)),
+      sym (get_or-kept p l i x no_frame (omega arith) c.at-age.ensures c.args.place no_frame ok (omega arith)),
     )
 
 pub loop-i-preserved : goal.loop-i-preserved
