@@ -1,6 +1,6 @@
 -- What the calls of a carrier say where the answer is known.
 use Rattle.std.proofs.Common.{◌≡◌, ℕ, ◌+◌, ◌<◌, ◌≤◌, min, true, List, [], ◌∷◌, ◌++◌, map, length, Ok, Err, filter, Result, ap, arith}
-use Rattle.std.specs.List.{remove, AllByRecursion as All}
+use Rattle.std.specs.List.{remove, AllByRecursion}
 use Rattle.std.proofs.lemmas.List.{length-map, take_all, drop_all}
 use Rattle.std.proofs.lemmas.List.Edits.{length-insert}
 use Rattle.std.proofs.ByRecursion.{All-weaker, kept_by_passes}
@@ -25,7 +25,7 @@ struck place l (Err e) m lt h = absurd (omega (arith, h.0))
 pub length-ticked : (n : ℕ) (l : List Aged) → length (ticked n l) ≤ length l
 length-ticked n l = omega (arith, length-kept (under n) (map older l), length-map l older)
 
-pub all_under : (n : ℕ) (l : List Aged) → All (λ a. a.1 < n) (filter (under n) l)
+pub all_under : (n : ℕ) (l : List Aged) → AllByRecursion (λ a. a.1 < n) (filter (under n) l)
 all_under n l = All-weaker (λ a. under n a ≡ true) (λ a. a.1 < n) (λ a e. ltb-true a.1 n e) (filter (under n) l) (kept_by_passes (under n) l)
 
 -- how many are held after a put

@@ -1,6 +1,6 @@
 -- What a carrier means, and what its calls do to its list.
 use Rattle.std.specs.Prelude.{◌≡◌, ℕ, ◌+◌, ◌<◌, ◌≤◌, Bool, List, ◌∷◌, ◌++◌, map, length, take, drop, Ok, Err, filter, Result, nat_lt, slice_index_or}
-use Rattle.std.specs.List.{remove, AllByRecursion as All}
+use Rattle.std.specs.List.{remove, AllByRecursion}
 use Rattle.wire.specs.Words.{zeros}
 use Rattle.wire.specs.declared.frame.Frame.{Frame}
 use Rattle.refusal.specs.declared.refusals.Refusal.{Refusal}
@@ -13,7 +13,7 @@ Aged = Frame × ℕ
 -- the laws of a carrier, at every value of its type
 pub record Lawful (C : Type 0) (list : C → List Aged) (life room : C → ℕ) : Type 0 where
   -- every age is below the lifetime
-  pub young : (c : C) → All (λ a. a.1 < life c) (list c)
+  pub young : (c : C) → AllByRecursion (λ a. a.1 < life c) (list c)
   -- the list is never longer than the capacity
   pub fits : (c : C) → length (list c) ≤ room c
   -- the lifetime lies in 1 to 65535

@@ -1,18 +1,18 @@
 -- What holds of every element, and what a map leaves.
 use Rattle.std.proofs.Common.{◌≡◌, ℕ, suc, ◌≤◌, Bool, true, false, cond, List, [], ◌∷◌, map, length, take, drop, filter, refl, ap, ◌∙◌, arith}
-use Rattle.std.specs.List.{insert, remove, AllByRecursion as All}
+use Rattle.std.specs.List.{insert, remove, AllByRecursion}
 use Rattle.std.proofs.lemmas.List.{length-take, take-map, drop-map, map-append, take-append-le, take-take}
 use Rattle.std.proofs.ByRecursion.{All-append, All-take, All-drop}
 
 module _ {X : Type 0} where
-  pub all_each : (P : X → Type 0) → ((x : X) → P x) → (xs : List X) → All P xs
+  pub all_each : (P : X → Type 0) → ((x : X) → P x) → (xs : List X) → AllByRecursion P xs
   all_each P h [] = tt
   all_each P h (x ∷ xs) = (h x, all_each P h xs)
 
-  pub all_removed : (P : X → Type 0) (xs : List X) (k : ℕ) → All P xs → All P (remove xs k)
+  pub all_removed : (P : X → Type 0) (xs : List X) (k : ℕ) → AllByRecursion P xs → AllByRecursion P (remove xs k)
   all_removed P xs k h = All-append P (take k xs) (drop (suc k) xs) (All-take P k xs h) (All-drop P (suc k) xs h)
 
-  pub all_inserted : (P : X → Type 0) (xs : List X) (k : ℕ) (x : X) → P x → All P xs → All P (insert xs k x)
+  pub all_inserted : (P : X → Type 0) (xs : List X) (k : ℕ) (x : X) → P x → AllByRecursion P xs → AllByRecursion P (insert xs k x)
   all_inserted P xs k x p h = All-append P (take k xs) (x ∷ drop k xs) (All-take P k xs h) (p, All-drop P k xs h)
 
   -- what is removed behind the first n leaves them
@@ -26,7 +26,7 @@ module _ {X Y : Type 0} where
   removed_map f xs k = simp (take-map, drop-map, map-append)
 
   -- two maps that agree where a test passes
-  pub map_where : (f h : X → Y) (s : X → Bool) → ((x : X) → s x ≡ true → h x ≡ f x) → (l : List X) → All (λ x. s x ≡ true) l → map h l ≡ map f l
+  pub map_where : (f h : X → Y) (s : X → Bool) → ((x : X) → s x ≡ true → h x ≡ f x) → (l : List X) → AllByRecursion (λ x. s x ≡ true) l → map h l ≡ map f l
   map_where f h s e [] k = refl
   map_where f h s e (x ∷ l) k = ap (λ y. y ∷ map h l) (e x k.0) ∙ ap (λ m. f x ∷ m) (map_where f h s e l k.1)
 

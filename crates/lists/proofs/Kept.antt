@@ -1,6 +1,6 @@
 -- What passes a test in a list, place by place.
 use Rattle.std.proofs.Common.{◌≡◌, ℕ, suc, ◌+◌, ◌<◌, ◌≤◌, Bool, true, false, cond, not, List, [], ◌∷◌, ◌++◌, length, get_or, take, drop, filter, sym, refl, ap, ◌∙◌, inl, inr, add-one, arith}
-use Rattle.std.specs.List.{remove, AllByRecursion as All}
+use Rattle.std.specs.List.{remove, AllByRecursion}
 use Rattle.std.proofs.lemmas.List.{take-append-drop, drop_more, drop_at, get_or_at, length-take-le, length-append}
 use Rattle.std.proofs.lemmas.List.Elements.{filter-append}
 use Rattle.std.proofs.lemmas.Bool.{cases_Bool}
@@ -17,7 +17,7 @@ module _ {X : Type 0} (p : X → Bool) where
   kept_no x xs e = ap (λ b. cond b (x ∷ filter p xs) (filter p xs)) e
 
   -- what passes, all of it, is the list itself
-  pub kept_all : (xs : List X) → All (λ x. p x ≡ true) xs → filter p xs ≡ xs
+  pub kept_all : (xs : List X) → AllByRecursion (λ x. p x ≡ true) xs → filter p xs ≡ xs
   kept_all [] h = refl
   kept_all (x ∷ xs) h = kept_yes x xs h.0 ∙ ap (λ l. x ∷ l) (kept_all xs h.1)
 

@@ -1,6 +1,6 @@
 -- What every call keeps, in parts: each over just what it speaks of.
 use Rattle.std.proofs.Common.{◌≡◌, ℕ, ◌+◌, ◌<◌, ◌≤◌, Bool, cond, List, length, get_or, Some, None, Option}
-use Rattle.std.specs.List.{AllByRecursion as All}
+use Rattle.std.specs.List.{AllByRecursion}
 use Rattle.carrier.specs.Carriers.{Aged}
 use Rattle.path.specs.Events.{Event}
 use Rattle.promise.specs.Vocabulary.{Accepted, Sent, Delivered, AtReceiver, heard, ExactlyBelow}
@@ -101,5 +101,5 @@ module _ {B : Type 0} (b : Ghosts B) where
     pub booked : Booked es s.ends.receiver.nd s.book
     pub data_puts : (f : Frame) (age n : ℕ) → P f age n → DataPut es s.ends.setting.terms.numbers s.ends.setting.terms.send_window s.ends.setting.terms.gap s.ends.sender.ns s.ends.sender.rest f age n
     pub ack_puts : (f : Frame) (age n : ℕ) → Q f age n → AckPut s.ends.setting.terms.numbers s.ends.setting.terms.send_window s.ends.setting.terms.gap s.ends.sender.ns s.ends.sender.rest s.ends.receiver.nr f age n
-    pub outward : All (Traced P s.ends.setting.terms.lifetime) s.ends.out
-    pub backward : All (Traced Q s.ends.setting.terms.lifetime) s.ends.back
+    pub outward : AllByRecursion (Traced P s.ends.setting.terms.lifetime) s.ends.out
+    pub backward : AllByRecursion (Traced Q s.ends.setting.terms.lifetime) s.ends.back

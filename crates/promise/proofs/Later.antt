@@ -2,7 +2,7 @@
 use Rattle.std.proofs.Common.{◌≡◌, ℕ, List, ◌∷◌, Option, arith}
 use mathlib.Core.List.Memᴰ
 use Rattle.std.proofs.ByRecursion.{All-weaker}
-use Rattle.std.specs.List.{AllByRecursion as All}
+use Rattle.std.specs.List.{AllByRecursion}
 use Rattle.carrier.specs.Carriers.{Aged}
 use Rattle.path.specs.Events.{Event}
 use Rattle.promise.specs.Vocabulary.{takes_ticks, rises, Sent, Delivered, ExactlyBelow}
@@ -53,10 +53,10 @@ module _ {B : Type 0} (b : Ghosts B) (e : Event B) (es : List (Event B)) where
   data_later N SW gap ns rest f age n d = record { entry = d.entry; is = accepted_later e es n d.entry d.is; words = d.words; below = d.below; timed = d.timed }
 
   module _ (s : State B) (still : takes_ticks e ≡ 0) (life : ℕ) (l : List Aged) where
-    pub out_still : (P : Frame → ℕ → ℕ → Type 0) → All (Traced P life) l → All (Traced (out_more b s e P) life) l
+    pub out_still : (P : Frame → ℕ → ℕ → Type 0) → AllByRecursion (Traced P life) l → AllByRecursion (Traced (out_more b s e P) life) l
     out_still P h = All-weaker (Traced P life) (Traced (out_more b s e P) life) (λ a t. record { num = t.num; put = out_later b s e P still a.0 a.1 t.num t.put; young = t.young }) l h
 
-    pub back_still : (Q : Frame → ℕ → ℕ → Type 0) → All (Traced Q life) l → All (Traced (back_more b s e Q) life) l
+    pub back_still : (Q : Frame → ℕ → ℕ → Type 0) → AllByRecursion (Traced Q life) l → AllByRecursion (Traced (back_more b s e Q) life) l
     back_still Q h = All-weaker (Traced Q life) (Traced (back_more b s e Q) life) (λ a t. record { num = t.num; put = back_later b s e Q still a.0 a.1 t.num t.put; young = t.young }) l h
 
   -- an event that answers no number that a history is asked for, in a state that stays

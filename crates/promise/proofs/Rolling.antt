@@ -3,7 +3,7 @@ use Rattle.std.proofs.Common.{◌≡◌, ℕ, zero, suc, ◌+◌, ◌-◌, ◌<�
 use native.Mathlib.Decide.{dec_lt}
 use Rattle.std.proofs.ByRecursion.{All-weaker}
 use Rattle.std.proofs.lemmas.Bool.Decides.{nat_tests}
-use Rattle.std.specs.List.{AllByRecursion as All}
+use Rattle.std.specs.List.{AllByRecursion}
 use Rattle.carrier.specs.Carriers.{Aged}
 use Rattle.path.specs.Events.{Event, Step, History, Fresh, send, resend, arrive, hear, deliver, acknowledge, lose_out, lose_back, tick, then}
 use Rattle.promise.specs.Promise.{BothEmpty, BookLong, Progress, InBook}
@@ -325,11 +325,11 @@ module _ {B : Type 0} (b : Ghosts B) (back : (x : B) → b.fits x → b.reads (b
     na : m.ends.sender.na ≡ s.ends.sender.na
     nr : m.ends.receiver.nr ≡ s.ends.receiver.nr
     book : m.book ≡ s.book
-    out : All (λ (a : Aged). k ≤ a.1) m.ends.out
-    back_old : All (λ (a : Aged). k ≤ a.1) m.ends.back
+    out : AllByRecursion (λ (a : Aged). k ≤ a.1) m.ends.out
+    back_old : AllByRecursion (λ (a : Aged). k ≤ a.1) m.ends.back
     onto : Onward m
 
-  waits_one : (k : ℕ) (s t : State B) (r : Result (Unit {0}) Refusal) → Onward s → All (λ (a : Aged). k ≤ a.1) s.ends.out → All (λ (a : Aged). k ≤ a.1) s.ends.back → Step b s (tick r) t → Waited (k + 1) s t
+  waits_one : (k : ℕ) (s t : State B) (r : Result (Unit {0}) Refusal) → Onward s → AllByRecursion (λ (a : Aged). k ≤ a.1) s.ends.out → AllByRecursion (λ (a : Aged). k ≤ a.1) s.ends.back → Step b s (tick r) t → Waited (k + 1) s t
   waits_one k s t (Ok u) o out old d =
       let h = d.does in
       let q = h.0.1 in
@@ -338,13 +338,13 @@ module _ {B : Type 0} (b : Ghosts B) (back : (x : B) → b.fits x → b.reads (b
         na = ap (λ (v : Ends). v.sender.na) q;
         nr = ap (λ (v : Ends). v.receiver.nr) q;
         book = h.3;
-        out = subst (λ l. All (λ (a : Aged). k + 1 ≤ a.1) l) (sym (ap (λ (v : Ends). v.out) q)) (all_ticked _ _ s.ends.setting.out_life (λ a x y. omega arith) s.ends.out out);
-        back_old = subst (λ l. All (λ (a : Aged). k + 1 ≤ a.1) l) (sym (ap (λ (v : Ends). v.back) q)) (all_ticked _ _ s.ends.setting.back_life (λ a x y. omega arith) s.ends.back old);
+        out = subst (λ l. AllByRecursion (λ (a : Aged). k + 1 ≤ a.1) l) (sym (ap (λ (v : Ends). v.out) q)) (all_ticked _ _ s.ends.setting.out_life (λ a x y. omega arith) s.ends.out out);
+        back_old = subst (λ l. AllByRecursion (λ (a : Aged). k + 1 ≤ a.1) l) (sym (ap (λ (v : Ends). v.back) q)) (all_ticked _ _ s.ends.setting.back_life (λ a x y. omega arith) s.ends.back old);
         onto = onward s t o (tick (Ok u)) d (ap (λ (v : Ends). v.sender.ng) q ∙ o.same);
       }
   waits_one k s t (Err x) o out old d = absurd (let z : ◌≡◌ {A = ℕ} 0 1 = cc (d.does.0.0, (inv s o).made.made) in omega arith)
 
-  waits : (n k : ℕ) (s m : State B) → Onward s → All (λ (a : Aged). k ≤ a.1) s.ends.out → All (λ (a : Aged). k ≤ a.1) s.ends.back → Ticks b n s m → Waited (k + n) s m
+  waits : (n k : ℕ) (s m : State B) → Onward s → AllByRecursion (λ (a : Aged). k ≤ a.1) s.ends.out → AllByRecursion (λ (a : Aged). k ≤ a.1) s.ends.back → Ticks b n s m → Waited (k + n) s m
   waits zero k s m o out old R.Ticks.none =
       record { setting = refl; na = refl; nr = refl; book = refl; out = All-weaker _ _ (λ a h. omega arith) s.ends.out out; back_old = All-weaker _ _ (λ a h. omega arith) s.ends.back old; onto = o }
   waits (suc n) k s m o out old (R.Ticks.more {r = r} {m = t} d rest) =
@@ -360,7 +360,7 @@ module _ {B : Type 0} (b : Ghosts B) (back : (x : B) → b.fits x → b.reads (b
         onto = w.onto;
       }
 
-any_age : (l : List Aged) → All (λ (a : Aged). 0 ≤ a.1) l
+any_age : (l : List Aged) → AllByRecursion (λ (a : Aged). 0 ≤ a.1) l
 any_age [] = tt
 any_age (a ∷ l) = (omega arith, any_age l)
 

@@ -3,7 +3,7 @@ use Rattle.std.proofs.Common.{◌≡◌, ℕ, ◌+◌, ◌<◌, List, ◌∷◌,
 use mathlib.Core.List.Memᴰ
 use mathlib.Core.List.{Memᴰ}
 use native.Mathlib.Decide.{dec_lt}
-use Rattle.std.specs.List.{remove, AllByRecursion as All}
+use Rattle.std.specs.List.{remove, AllByRecursion}
 use Rattle.carrier.specs.Carriers.{Aged, Joined, ticked}
 use Rattle.path.specs.Events.{Event, send, resend, acknowledge, lose_out, lose_back, tick}
 use Rattle.promise.specs.Vocabulary.{takes_ticks, Accepted, Sent, AtReceiver, ExactlyBelow, by_send, by_resend, by_acknowledge}
@@ -150,7 +150,7 @@ module _ {B : Type 0} (b : Ghosts B) (P Q : Frame → ℕ → ℕ → Type 0) (e
       }
 
   -- other lists in the carriers, each frame traced
-  relisted : (out back : List Aged) → All (Traced P s.ends.setting.terms.lifetime) out → All (Traced Q s.ends.setting.terms.lifetime) back
+  relisted : (out back : List Aged) → AllByRecursion (Traced P s.ends.setting.terms.lifetime) out → AllByRecursion (Traced Q s.ends.setting.terms.lifetime) back
       → Inv b P Q es (record { ends = with_back (with_out s.ends out) back; kept = s.kept; got = s.got; book = s.book })
   relisted out back o k =
       let u = i.nums in

@@ -1,7 +1,7 @@
 -- What a cable means: one frame at age 0, or none.
 use Rattle.std.specs.Prelude.{ℕ, ◌<◌, ◌≤◌, List, [], ◌∷◌, length, Some, None, Option}
 use Rattle.std.proofs.Common.{arith}
-use Rattle.std.specs.List.{AllByRecursion as All}
+use Rattle.std.specs.List.{AllByRecursion}
 use Rattle.wire.specs.declared.frame.Frame.{Frame}
 use Rattle.carrier.specs.Carriers.{Aged, Lawful}
 use Rattle.towers.specs.declared.cable.Cable.{Cable}
@@ -23,7 +23,7 @@ cable_life c = 1
 abbrev pub cable_room : Cable → ℕ
 cable_room c = 1
 
-young : (o : Option Frame) → All (λ a. a.1 < 1) (alone o)
+young : (o : Option Frame) → AllByRecursion (λ a. a.1 < 1) (alone o)
 young None = tt
 young (Some f) = (omega arith, tt)
 
