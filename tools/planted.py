@@ -5,7 +5,7 @@
     tools/planted.py try FOLDER TABLE [CRATE...] [--lane I/N] [--most N]
     tools/planted.py page TABLE...
 
-`list` prints the changes. `page` prints tables as docs/PLANTED.md has them. `try` works in FOLDER, a copy of the repository whose crates `rt check` has checked before
+`list` prints the changes. `page` prints tables as Markdown. `try` works in FOLDER, a copy of the repository whose crates `rt check` has checked before
 (it is made if it is not there), and appends a line for each change to TABLE; changes that TABLE already has are left out.
 
 Changes are made by rule, not by hand, from the bodies of the functions: a comparison, an operator, a constant, a variant, a field or

@@ -3,6 +3,6 @@
 
 mod running;
 
-pub use decode::Decoder;
-pub use lines::Line;
+pub use decode::{Decoder, Due, Phase};
+pub use lines::{Line, Said};
 pub use running::run;
