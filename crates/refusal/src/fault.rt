@@ -24,6 +24,7 @@ pub enum Cause {
 }
 
 impl Cause {
+    // A method: it is written `cause.number()`, where `u8::from(cause)` would not say which number.
     pub fn number(self) -> u8
         ensures { result ≡ cause_number self }
     {
@@ -39,6 +40,7 @@ pub struct Fault {
     pub word: u8,
 }
 
+// One name for each fault that there is: built from a layer and a cause, a fault could name a pair that no reader finds.
 impl Fault {
     pub fn no_kind() -> Fault
         ensures { result ≡ no_kind }

@@ -43,6 +43,7 @@ pub enum Refusal {
 }
 
 impl Refusal {
+    // Written out, since a variant that holds a fault has no number of its own to cast; a method, as a cause's number is.
     pub fn number(self) -> u8
         ensures { result ≡ refusal_number self }
     {

@@ -1,5 +1,5 @@
 // The five numbers that both ends of a path agree on.
-ghost use Rattle.std.specs.Prelude.{◌≡◌, ◌+◌, ◌%◌, ◌≤◌, ◌↔◌, IsTrue, MatchResult};
+ghost use Rattle.std.specs.Prelude.{◌≡◌, ◌+◌, ◌%◌, ◌≤◌, MatchOption, MatchResult};
 ghost use Rattle.terms.specs.Rules.{Between, InRange, RoundedUp, Enough, Least, LeastIf, TermsRefused};
 
 use refusal::Refusal;
@@ -21,45 +21,58 @@ pub struct Terms {
     ghost enough: { Enough send_window receive_window lifetime gap numbers },
 }
 
-// K, how many gaps a lifetime reaches into.
-fn gaps(lifetime: u32, gap: u32) -> u32
-    requires { Between 1 lifetime 65535 × Between 1 gap 65535 }
-    ensures rounded { RoundedUp lifetime gap result }
-    ensures bound { result ≤ lifetime + gap }
-{
-    (lifetime + gap - 1) / gap
+// The terms that the least count of numbers follows from, each in its range.
+#[derive(Clone, Copy)]
+struct Sizes {
+    send_window: u32,
+    receive_window: u32,
+    lifetime: u32,
+    gap: u32,
+    ghost range: { InRange send_window receive_window lifetime gap },
 }
 
-fn in_range(send_window: u32, receive_window: u32, lifetime: u32, gap: u32) -> bool
-    ensures { IsTrue result ↔ InRange send_window receive_window lifetime gap }
-{
-    1 <= send_window
-        && send_window <= 4096
-        && 1 <= receive_window
-        && receive_window <= 4096
-        && 1 <= lifetime
-        && lifetime <= 65535
-        && 1 <= gap
-        && gap <= 65535
-}
+impl Sizes {
+    fn new(send_window: u32, receive_window: u32, lifetime: u32, gap: u32) -> Option<Sizes>
+        ensures { MatchOption result (InRange send_window receive_window lifetime gap → ⊥) (λ s. (s.send_window ≡ send_window) × (s.receive_window ≡ receive_window) × (s.lifetime ≡ lifetime) × (s.gap ≡ gap)) }
+    {
+        let windows = 1..=4096;
+        let ticks = 1..=65535;
+        let in_range = windows.contains(&send_window)
+            && windows.contains(&receive_window)
+            && ticks.contains(&lifetime)
+            && ticks.contains(&gap);
+        if !in_range {
+            return None;
+        }
+        Some(Sizes {
+            send_window,
+            receive_window,
+            lifetime,
+            gap,
+        })
+    }
 
-// SW + RW + K for terms in range.
-fn least(send_window: u32, receive_window: u32, lifetime: u32, gap: u32) -> u32
-    requires { InRange send_window receive_window lifetime gap }
-    ensures { Least send_window receive_window lifetime gap result }
-{
-    send_window + receive_window + gaps(lifetime, gap)
+    // K, how many gaps a lifetime reaches into.
+    fn gaps(self) -> u32
+        ensures rounded { RoundedUp self.lifetime self.gap result }
+        ensures bound { result ≤ self.lifetime + self.gap }
+    {
+        (self.lifetime + self.gap - 1) / self.gap
+    }
+
+    // SW + RW + K.
+    fn least(self) -> u32
+        ensures { Least self.send_window self.receive_window self.lifetime self.gap result }
+    {
+        self.gaps() + self.send_window + self.receive_window
+    }
 }
 
 // SW + RW + K, where all four are in range.
 pub fn least_numbers(send_window: u32, receive_window: u32, lifetime: u32, gap: u32) -> Option<u32>
     ensures { LeastIf send_window receive_window lifetime gap result }
 {
-    if in_range(send_window, receive_window, lifetime, gap) {
-        Some(least(send_window, receive_window, lifetime, gap))
-    } else {
-        None
-    }
+    Some(Sizes::new(send_window, receive_window, lifetime, gap)?.least())
 }
 
 impl Terms {
@@ -72,10 +85,10 @@ impl Terms {
     ) -> Result<Terms, Refusal>
         ensures { MatchResult result (λ t. (t.send_window ≡ send_window) × (t.receive_window ≡ receive_window) × (t.lifetime ≡ lifetime) × (t.gap ≡ gap) × (t.numbers ≡ numbers)) (TermsRefused send_window receive_window lifetime gap numbers) }
     {
-        if !in_range(send_window, receive_window, lifetime, gap) || numbers < 1 || numbers > 65536 {
-            return Err(Refusal::TermOutOfRange);
-        }
-        if numbers < least(send_window, receive_window, lifetime, gap) {
+        let sizes = Sizes::new(send_window, receive_window, lifetime, gap)
+            .filter(|_| (1..=65536).contains(&numbers))
+            .ok_or(Refusal::TermOutOfRange)?;
+        if numbers < sizes.least() {
             return Err(Refusal::TooFewNumbers);
         }
         Ok(Terms {
@@ -121,7 +134,25 @@ impl Terms {
     pub fn gaps(&self) -> u32
         ensures { RoundedUp self.now.lifetime self.now.gap result }
     {
-        gaps(self.lifetime, self.gap)
+        self.sizes().gaps()
+    }
+
+    fn sizes(&self) -> Sizes
+        ensures { (result.lifetime ≡ self.now.lifetime) × (result.gap ≡ self.now.gap) }
+    {
+        let Terms {
+            send_window,
+            receive_window,
+            lifetime,
+            gap,
+            ..
+        } = *self;
+        Sizes {
+            send_window,
+            receive_window,
+            lifetime,
+            gap,
+        }
     }
 
     // The cyclic number of a whole number.

@@ -8,6 +8,7 @@ ghost use Rattle.wire.specs.declared.words.Words.{Words as Pair};
 use crate::words::Words;
 use refusal::Fault;
 
+// Not `Into` and `TryFrom`: the laws speak of both ways, and each of those two traits knows one.
 pub trait Block: Copy {
     // the values that the type holds
     ghost fits: { Self → Type 0 };

@@ -8,7 +8,7 @@ pub enum Content<B> {
     EndMark { number: u16 },
 }
 
-// What the head of a frame says, with the words below it still unread.
+// What the head of a frame says, with the words below it still unread. As `Content<()>` its data would hold a block that nobody sent.
 #[derive(Clone, Copy)]
 pub enum Head {
     Data { number: u16 },

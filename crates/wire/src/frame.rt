@@ -50,6 +50,7 @@ impl Words {
 }
 
 impl Frame {
+    // Each of these is a method and no `TryFrom`, and `write` below no `From`: what they promise has parts, each with its name.
     // Reads the head, and refuses bits that must be zero and are not.
     pub fn head(self) -> Result<Head, Fault>
         ensures value { result ≡ head_of self }
