@@ -1,47 +1,37 @@
--- A carrier over a slice holds the first of xs, as many as it uses and has room for, each read by f.
-use Rattle.std.proofs.Common.{◌≡◌, ℕ, ◌+◌, ◌-◌, ◌<◌, ◌≤◌, min, true, List, [], ◌∷◌, ◌++◌, map, length, get_or, take, set, filter, sym, ap, ◌∙◌, arith}
-use Rattle.std.specs.List.{remove}
-use Rattle.std.proofs.lemmas.List.{length-map, length-take, take_more_set, map_push, get_or-map, get_or-take}
+-- A carrier whose list is a list of records l, each read by f.
+use Rattle.std.proofs.Common.{◌≡◌, ℕ, ◌+◌, ◌-◌, ◌<◌, min, true, List, [], ◌∷◌, ◌++◌, map, length, take, Ok, Err, filter, Result, sym, ap, ◌∙◌, arith, length-take}
+use Rattle.std.specs.List.{remove, copy_within}
+use Rattle.std.proofs.lemmas.List.{length-map, map_push}
 use Rattle.std.proofs.ByRecursion.{kept_by_passes}
+use Rattle.lists.proofs.Gaps.{take-copied_down}
 use Rattle.lists.proofs.Elements.{removed_map, map_where, map-map, kept_map}
+use Rattle.refusal.specs.declared.refusals.Refusal.{Refusal}
 use Rattle.wire.specs.declared.frame.Frame.{Frame}
-use Rattle.carrier.specs.Carriers.{Aged, Joined, older, under, ticked}
+use Rattle.carrier.specs.Carriers.{Aged, Put, Struck, older, under, ticked}
+use Rattle.carrier.specs.Records.{Pushed, Removed}
 use Rattle.carrier.proofs.Calls.{joined_last}
 
-module _ {X : Type 0} (f : X → Aged) (used room : ℕ) (xs : List X) (le : room ≤ length xs) where
-  pub held_length : length (map f (take (min used room) xs)) ≡ min used room
-  held_length = simp (length-map, length-take) (omega arith)
+module _ {X : Type 0} (f : X → Aged) (l : List X) where
+  pub held_put : (room : ℕ) (x : X) (fr : Frame) (r : Result (Unit {0}) Refusal) (l' : List X) → Pushed room x l r l' → f x ≡ (fr, 0) → Put room fr (map f l) r (map f l')
+  held_put room x fr (Ok u) l' h s = (rw length-map h.0, joined_last fr (map f l) (map f l') (ap (map f) h.1 ∙ map_push f l x ∙ ap (λ a. map f l ++ a ∷ []) s))
+  held_put room x fr (Err e) l' h s = (rw length-map h.0, h.1, ap (map f) h.2)
 
-  module _ (u : ℕ) (is : u ≡ min used room) where
-    now_held : map f (take (min used room) xs) ≡ map f (take u xs)
-    now_held = rw is
+  pub held_strike : (place : ℕ) (r : Result (Unit {0}) Refusal) (l' : List X) → Removed place l r l' → Struck place (map f l) r (map f l')
+  held_strike place (Ok u) l' h = (rw length-map h.0, ap (map f) h.1 ∙ removed_map f l place)
+  held_strike place (Err e) l' h = (rw length-map h.0, h.1, ap (map f) h.2)
 
-    pub held_show : (place : ℕ) (x d : X) (none : Aged) → place < u → x ≡ get_or xs place d → f x ≡ get_or (map f (take (min used room) xs)) place none
-    held_show place x d none lt e =
-        ap f e
-        ∙ ap f (sym (get_or-take u xs place d lt))
-        ∙ sym (get_or-map f (take u xs) place d none (simp length-take (omega arith)))
-        ∙ ap (λ l. get_or l place none) (sym now_held)
+  -- h reads the records that stay one tick later
+  pub held_tick : (life : ℕ) (h : X → Aged) → ((x : X) → under life (older (f x)) ≡ true → h x ≡ older (f x)) → map h (filter (λ x. under life (older (f x))) l) ≡ ticked life (map f l)
+  held_tick life h later =
+      let s = λ (x : X). under life (older (f x)) in
+      map_where (λ x. older (f x)) h s later (filter s l) (kept_by_passes s l)
+      ∙ sym (kept_map (λ x. older (f x)) (under life) l)
+      ∙ ap (filter (under life)) (map-map f older l)
 
-    module _ (after : ℕ) (same : after ≡ room) (ys : List X) where
-      pub held_put : (x : X) (fr : Frame) → f x ≡ (fr, 0) → u < room → ys ≡ set xs u x → Joined fr (map f (take (min used room) xs)) (map f (take (min (u + 1) after) ys))
-      held_put x fr s lt e =
-          let more : min (u + 1) after ≡ u + 1 = omega arith in
-          joined_last fr (map f (take (min used room) xs)) (map f (take (min (u + 1) after) ys))
-          (rw (more, e) (ap (map f) (take_more_set xs u x (omega arith)) ∙ map_push f (take u xs) x ∙ ap (λ y. map f (take u xs) ++ y ∷ []) s ∙ ap (λ l. l ++ (fr, 0) ∷ []) (sym now_held)))
-
-      pub held_strike : (place : ℕ) → take (u - 1) ys ≡ remove (take u xs) place → map f (take (min (u - 1) after) ys) ≡ remove (map f (take (min used room) xs)) place
-      held_strike place e =
-          let less : min (u - 1) after ≡ u - 1 = omega arith in
-          rw less (ap (map f) e ∙ removed_map f (take u xs) place ∙ ap (λ l. remove l place) (sym now_held))
-
-      -- h reads the records one tick later, where they are still young
-      pub held_tick : {Y : Type 0} (g : Y → Aged) (h : X → Aged) (zs : List Y) (life r : ℕ) → ((x : X) → under life (older (f x)) ≡ true → h x ≡ older (f x)) → r ≤ u → map g (take r zs) ≡ map h (filter (λ x. under life (older (f x))) (take u xs)) → map g (take (min r after) zs) ≡ ticked life (map f (take (min used room) xs))
-      held_tick g h zs life r later up e =
-          let fits : min r after ≡ r = omega arith in
-          let s = λ (x : X). under life (older (f x)) in
-          rw fits
-          (e
-          ∙ map_where (λ x. older (f x)) h s later (filter s (take u xs)) (kept_by_passes s (take u xs))
-          ∙ sym (kept_map (λ x. older (f x)) (under life) (take u xs))
-          ∙ ap (filter (under life)) (map-map f older (take u xs) ∙ ap (map older) (sym now_held)))
+-- xs in use up to u, with the gap at one place closed, and ys what that leaves of it
+pub held_gap : {X : Type 0} (xs ys : List X) (used u place : ℕ) → u ≡ length (take (min used (min 4096 (length xs))) xs) → place < u → length ys ≡ length xs → ys ≡ copy_within xs (place + 1) u place → take (min (u - 1) (min 4096 (length ys))) ys ≡ remove (take (min used (min 4096 (length xs))) xs) place
+held_gap xs ys used u place is lt long e =
+    let n = min used (min 4096 (length xs)) in
+    let same : u ≡ n = is ∙ simp length-take (omega arith) in
+    let less : min (u - 1) (min 4096 (length ys)) ≡ u - 1 = omega arith in
+    rw (less, e) (take-copied_down xs place u (omega arith) (omega arith) ∙ ap (λ k. remove (take k xs) place) same)

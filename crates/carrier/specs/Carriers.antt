@@ -45,6 +45,11 @@ abbrev pub Struck : ℕ → List Aged → Result (Unit {0}) Refusal → List Age
 Struck place l (Ok u) l' = (place < length l) × (l' ≡ remove l place)
 Struck place l (Err e) l' = (length l ≤ place) × (e ≡ NoSuchPlace) × (l' ≡ l)
 
+-- the lifetime and the capacity are as they were
+pub record SameBounds {C : Type 0} (life room : C → ℕ) (old new : C) : Type 0 where
+  pub same_life : life new ≡ life old
+  pub same_room : room new ≡ room old
+
 -- one tick older
 abbrev pub older : Aged → Aged
 older a = (a.0, a.1 + 1)

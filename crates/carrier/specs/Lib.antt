@@ -1,2 +1,4 @@
 pub mod Carriers
+pub mod Lifetimes
+pub mod Records
 pub mod Shelves

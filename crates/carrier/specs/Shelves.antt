@@ -1,21 +1,16 @@
 -- What a shelf means, at every value.
-use Rattle.std.specs.Prelude.{ℕ, ◌+◌, ◌-◌, ◌<◌, min, max, Bool, List, map, length, take, nat_lt}
-use Rattle.std.proofs.Common.{arith, length-take}
-use Rattle.std.proofs.lemmas.List.{length-map}
-use Rattle.std.proofs.ByRecursion.{All-map}
-use Rattle.lists.proofs.Elements.{all_each}
+use Rattle.std.specs.Prelude.{ℕ, ◌+◌, ◌-◌, min, Bool, List, map, nat_lt}
+use Rattle.std.proofs.Common.{arith}
 use Rattle.wire.specs.declared.frame.Frame.{Frame}
 use Rattle.carrier.specs.declared.shelf.Slot.{Slot}
 use Rattle.carrier.specs.declared.shelf.Shelf.{Shelf}
-use Rattle.carrier.specs.Carriers.{Aged, Lawful, no_frame}
+use Rattle.carrier.specs.Carriers.{Aged, Lawful}
+use Rattle.carrier.specs.Lifetimes.{ticks_of}
+use Rattle.carrier.specs.Records.{records_list, records_room, records_lawful}
 
 -- a record of a frame and an age
 abbrev pub slot : Frame → ℕ → Slot
 slot f n = record { frame = f; age = n }
-
--- what would stand past the end of the slice
-abbrev pub none : Slot
-none = slot no_frame.0 0
 
 -- what a record holds, its age kept below the lifetime
 abbrev pub clipped : ℕ → Slot → Aged
@@ -29,23 +24,16 @@ grown life x = slot x.frame (min x.age (life - 1) + 1)
 abbrev pub fresh : ℕ → Slot → Bool
 fresh life x = nat_lt x.age life
 
--- a lifetime outside 1 to 65535 is taken as the nearer end
 abbrev pub shelf_life : Shelf → ℕ
-shelf_life s = min 65535 (max 1 s.life)
+shelf_life s = ticks_of s.life
 
 -- the records that fit, at most 4096
 abbrev pub shelf_room : Shelf → ℕ
-shelf_room s = min 4096 (length s.slots.now)
+shelf_room s = records_room s.slots
 
 -- the records in use, in order
 abbrev pub shelf_list : Shelf → List Aged
-shelf_list s = map (clipped (shelf_life s)) (take (min s.used (shelf_room s)) s.slots.now)
+shelf_list s = map (clipped (shelf_life s)) (records_list s.slots)
 
 pub shelf_laws : Lawful Shelf shelf_list shelf_life shelf_room
-shelf_laws = record {
-  young = λ s. All-map (λ a. a.1 < shelf_life s) (clipped (shelf_life s)) (take (min s.used (shelf_room s)) s.slots.now) (all_each (λ x. (clipped (shelf_life s) x).1 < shelf_life s) (λ x. omega arith) (take (min s.used (shelf_room s)) s.slots.now));
-  fits = λ s. simp (length-map, length-take) (omega arith);
-  alive = λ s. omega arith;
-  brief = λ s. omega arith;
-  small = λ s. omega arith;
-}
+shelf_laws = records_lawful (λ s. s.slots) (λ s. clipped (shelf_life s)) shelf_life (λ s x. omega arith) (λ s. omega arith) (λ s. omega arith)

@@ -1,6 +1,6 @@
 // What a line of radio means: a list of frames with their ages, a lifetime and a capacity. Code above knows these calls alone.
 ghost use Rattle.std.specs.Prelude.{◌≡◌, ℕ, List, length};
-ghost use Rattle.carrier.specs.Carriers.{Aged, Lawful, Put, Shown, Struck, ticked};
+ghost use Rattle.carrier.specs.Carriers.{Aged, Lawful, Put, SameBounds, Shown, Struck, ticked};
 
 use wire::{Frame, Refusal};
 
@@ -19,8 +19,7 @@ pub trait Carrier {
     // The frame joins at age 0, at a place that is left open.
     fn put(&mut self, frame: Frame) -> Result<(), Refusal>
         ensures put { Put (room self.old) frame (list self.old) result (list self.new) }
-        ensures life { life self.new ≡ life self.old }
-        ensures room { room self.new ≡ room self.old };
+        ensures bounds { SameBounds life room self.old self.new };
 
     fn count(&self) -> u32
         ensures { result ≡ length (list self.now) };
@@ -32,14 +31,12 @@ pub trait Carrier {
     // Removes the frame at a place.
     fn strike(&mut self, place: u32) -> Result<(), Refusal>
         ensures struck { Struck place (list self.old) result (list self.new) }
-        ensures life { life self.new ≡ life self.old }
-        ensures room { room self.new ≡ room self.old };
+        ensures bounds { SameBounds life room self.old self.new };
 
     // One tick of time passes.
     fn tick(&mut self)
         ensures ticked { list self.new ≡ ticked (life self.old) (list self.old) }
-        ensures life { life self.new ≡ life self.old }
-        ensures room { room self.new ≡ room self.old };
+        ensures bounds { SameBounds life room self.old self.new };
 
     fn lifetime(&self) -> u32
         ensures { result ≡ life self.now };

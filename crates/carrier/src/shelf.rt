@@ -1,10 +1,11 @@
 // The shelf: a carrier that keeps its frames in a lent slice of records, one frame and its age in each.
-ghost use Rattle.std.specs.Prelude.{◌≡◌, ◌-◌, ◌<◌, ◌≤◌, min, max, [], ◌++◌, map, length, take, drop, filter, slice_index_or};
-ghost use Rattle.std.specs.List.{remove};
-ghost use Rattle.carrier.specs.Carriers.{Joined, no_frame};
+ghost use Rattle.std.specs.Prelude.{◌≡◌, min, max, [], length};
+ghost use Rattle.carrier.specs.Lifetimes.{ticks_of};
 ghost use Rattle.carrier.specs.Shelves.{slot, clipped, grown, fresh, shelf_list, shelf_life, shelf_room, shelf_laws};
 
 use crate::carrier::Carrier;
+use crate::lifetime::Lifetime;
+use crate::records::Records;
 use wire::{Frame, Refusal, Words};
 
 #[derive(Clone, Copy)]
@@ -34,76 +35,34 @@ impl Slot {
     }
 
     // The frame and its age, kept below the lifetime.
-    fn shown(self, life: u32) -> (Frame, u32)
-        requires { 1 ≤ life }
-        ensures { result ≡ clipped life self }
+    fn shown(self, life: Lifetime) -> (Frame, u32)
+        ensures { result ≡ clipped (ticks_of life) self }
     {
-        (self.frame, self.age.min(life - 1))
+        (self.frame, life.cut(self.age))
     }
 
     // One tick older.
-    fn older(self, life: u32) -> Slot
-        requires { 1 ≤ life }
-        ensures { result ≡ grown life self }
+    fn older(self, life: Lifetime) -> Slot
+        ensures { result ≡ grown (ticks_of life) self }
     {
         Slot {
-            frame: self.frame,
-            age: self.age.min(life - 1) + 1,
+            age: life.cut(self.age) + 1,
+            ..self
         }
     }
 
-    fn is_fresh(self, life: u32) -> bool
-        ensures { result ≡ fresh life self }
+    fn is_fresh(&self, life: Lifetime) -> bool
+        ensures { result ≡ fresh (ticks_of life) self.now }
     {
-        self.age < life
+        self.age < life.ticks()
     }
-}
-
-// Moves what stands behind `place`, below `used`, one place down.
-fn close_gap(slots: &mut [Slot], place: usize, used: usize)
-    requires { (place < used) × (used ≤ length slots.old) }
-    ensures { take (used - 1) slots.new ≡ remove (take used slots.old) place }
-{
-    for i in place + 1..used {
-        slots[i - 1] = slots[i];
-    }
-}
-
-// Raises the age of each of the first `used` records.
-fn age_all(slots: &mut [Slot], used: usize, life: u32)
-    requires { (used ≤ length slots.old) × (1 ≤ life) }
-    ensures { slots.new ≡ map (grown life) (take used slots.old) ++ drop used slots.old }
-{
-    for i in 0..used {
-        slots[i] = slots[i].older(life);
-    }
-}
-
-// Closes the gaps of those among the first `used` records whose age has reached the lifetime, and answers how many are left.
-fn close_expired(slots: &mut [Slot], used: usize, life: u32) -> usize
-    requires { used ≤ length slots.old }
-    ensures upto { result ≤ used }
-    ensures list { take result slots.new ≡ filter (fresh life) (take used slots.old) }
-{
-    let mut left = 0;
-    for i in 0..used {
-        let slot = slots[i];
-        if slot.is_fresh(life) {
-            if left < i {
-                slots[left] = slot;
-            }
-            left += 1;
-        }
-    }
-    left
 }
 
 // It means something at every value: no more records than fit, and no age that reaches the lifetime.
 #[derive(Drop)]
 pub struct Shelf<'a> {
-    slots: &'a mut [Slot],
-    used: usize,
-    life: u32,
+    slots: Records<'a, Slot>,
+    life: Lifetime,
 }
 
 impl<'a> Shelf<'a> {
@@ -114,47 +73,9 @@ impl<'a> Shelf<'a> {
         ensures room { shelf_room result ≡ min 4096 (length slots.old) }
     {
         Shelf {
-            slots,
-            used: 0,
-            life: lifetime,
+            slots: Records::new(slots),
+            life: Lifetime::new(lifetime),
         }
-    }
-
-    // How many records are held.
-    fn held(&self) -> usize
-        ensures value { result ≡ length (shelf_list self.now) }
-        ensures used { result ≡ min self.now.used (shelf_room self.now) }
-    {
-        self.used.min(self.slots.len()).min(4096)
-    }
-
-    fn read(&self, place: usize) -> (Frame, u32)
-        requires { place < length (shelf_list self.now) }
-        ensures { result ≡ slice_index_or (shelf_list self.now) place no_frame }
-    {
-        self.slots[place].shown(self.lifetime())
-    }
-
-    fn append(&mut self, frame: Frame)
-        requires { length (shelf_list self.old) < shelf_room self.old }
-        ensures joined { Joined frame (shelf_list self.old) (shelf_list self.new) }
-        ensures life { shelf_life self.new ≡ shelf_life self.old }
-        ensures room { shelf_room self.new ≡ shelf_room self.old }
-    {
-        let used = self.held();
-        self.slots[used] = Slot::new(frame);
-        self.used = used + 1;
-    }
-
-    fn remove(&mut self, place: usize)
-        requires { place < length (shelf_list self.old) }
-        ensures list { shelf_list self.new ≡ remove (shelf_list self.old) place }
-        ensures life { shelf_life self.new ≡ shelf_life self.old }
-        ensures room { shelf_room self.new ≡ shelf_room self.old }
-    {
-        let used = self.held();
-        close_gap(self.slots, place, used);
-        self.used = used - 1;
     }
 }
 
@@ -168,46 +89,37 @@ impl Carrier for Shelf<'_> {
     ghost laws = { shelf_laws };
 
     fn put(&mut self, frame: Frame) -> Result<(), Refusal> {
-        if self.count() >= self.capacity() {
-            return Err(Refusal::CarrierFull);
-        }
-        self.append(frame);
-        Ok(())
+        self.slots.push(Slot::new(frame))
     }
 
     fn count(&self) -> u32 {
-        self.held() as u32
+        self.slots.count()
     }
 
     fn show(&self, place: u32) -> Result<(Frame, u32), Refusal> {
-        if place >= self.count() {
-            return Err(Refusal::NoSuchPlace);
-        }
-        Ok(self.read(place as usize))
+        let slot = self.slots.get(place)?;
+        Ok(slot.shown(self.life))
     }
 
+    #[tactic(auto, using(crate::proofs::Held::held_strike))]
     fn strike(&mut self, place: u32) -> Result<(), Refusal> {
-        if place >= self.count() {
-            return Err(Refusal::NoSuchPlace);
-        }
-        self.remove(place as usize);
-        Ok(())
+        self.slots.remove(place)
     }
 
     fn tick(&mut self) {
-        if self.used > 0 {
-            let used = self.held();
-            let life = self.lifetime();
-            age_all(self.slots, used, life);
-            self.used = close_expired(self.slots, used, life);
+        if self.slots.is_empty() {
+            return;
         }
+        let life = self.life;
+        self.slots.update(|slot| slot.older(life));
+        self.slots.retain(|slot| slot.is_fresh(life));
     }
 
     fn lifetime(&self) -> u32 {
-        self.life.clamp(1, 65535)
+        self.life.ticks()
     }
 
     fn capacity(&self) -> u32 {
-        self.slots.len().min(4096) as u32
+        self.slots.capacity()
     }
 }

@@ -1,4 +1,3 @@
 pub mod Elements
 pub mod Gaps
 pub mod Kept
-pub mod Joins

@@ -28,37 +28,30 @@ impl Carrier for Cable {
     ghost laws = { cable_laws };
 
     fn put(&mut self, frame: Frame) -> Result<(), Refusal> {
-        match self.held {
-            Some(_) => Err(Refusal::CarrierFull),
-            None => {
-                self.held = Some(frame);
-                Ok(())
-            }
+        if self.held.is_some() {
+            return Err(Refusal::CarrierFull);
         }
+        self.held = Some(frame);
+        Ok(())
     }
 
     fn count(&self) -> u32 {
-        match self.held {
-            Some(_) => 1,
-            None => 0,
-        }
+        u32::from(self.held.is_some())
     }
 
     fn show(&self, place: u32) -> Result<(Frame, u32), Refusal> {
-        match self.held {
-            Some(frame) if place == 0 => Ok((frame, 0)),
-            _ => Err(Refusal::NoSuchPlace),
-        }
+        self.held
+            .filter(|_| place == 0)
+            .map(|frame| (frame, 0))
+            .ok_or(Refusal::NoSuchPlace)
     }
 
     fn strike(&mut self, place: u32) -> Result<(), Refusal> {
-        match self.held {
-            Some(_) if place == 0 => {
-                self.held = None;
-                Ok(())
-            }
-            _ => Err(Refusal::NoSuchPlace),
+        if place >= self.count() {
+            return Err(Refusal::NoSuchPlace);
         }
+        self.held = None;
+        Ok(())
     }
 
     fn tick(&mut self) {

@@ -40,18 +40,15 @@ mod tests {
 
     // What a place shows: the head of its frame, and its age.
     fn at<C: Carrier>(carrier: &C, place: u32) -> Option<(u32, u32)> {
-        match carrier.show(place) {
-            Ok((frame, age)) => Some((frame.head, age)),
-            Err(_) => None,
-        }
+        carrier
+            .show(place)
+            .ok()
+            .map(|(frame, age)| (frame.head, age))
     }
 
     // The number of a refusal, and 0 for none.
     fn number(res: Result<(), Refusal>) -> u8 {
-        match res {
-            Ok(()) => 0,
-            Err(refusal) => refusal.number(),
-        }
+        res.err().map_or(0, Refusal::number)
     }
 
     #[test]

@@ -9,6 +9,7 @@ use Rattle.refusal.specs.declared.refusals.Refusal.TheVariants.{CarrierFull}
 use Rattle.carrier.specs.declared.carrier.Carrier.{Ghosts}
 use Rattle.carrier.specs.Carriers.{Aged, Lawful, Joined, under}
 use Rattle.carrier.proofs.Calls.{all_under}
+use Rattle.carrier.specs.Carriers.{SameBounds}
 use Rattle.two_way.specs.declared.TwoWay.{TwoWay}
 use Rattle.two_way.specs.declared.Way.{Way}
 use Rattle.two_way.specs.declared.Way.TheVariants.{First, Second}
@@ -44,18 +45,14 @@ module _ {A B : Type 0} (a : Ghosts A) (b : Ghosts B) where
   abbrev pub PutWay : Frame → TwoWay A B → Result Way Refusal → TwoWay A B → Type 0
   PutWay f t r t' = Filled (a.room t.first) (b.room t.second) f (first_list t) (second_list t) r (a.list t'.first) (b.list t'.second)
 
-  -- both lifetimes below are as they were
-  abbrev pub SameLives : TwoWay A B → TwoWay A B → Type 0
-  SameLives t t' = (a.life t'.first ≡ a.life t.first) × (b.life t'.second ≡ b.life t.second)
-
-  -- both capacities below are as they were
-  abbrev pub SameRooms : TwoWay A B → TwoWay A B → Type 0
-  SameRooms t t' = (a.room t'.first ≡ a.room t.first) × (b.room t'.second ≡ b.room t.second)
+  -- the lifetimes and the capacities below are as they were
+  abbrev pub SameBoth : TwoWay A B → TwoWay A B → Type 0
+  SameBoth t t' = SameBounds a.life a.room t.first t'.first × SameBounds b.life b.room t.second t'.second
 
   pub two_laws : Lawful (TwoWay A B) two_list two_life two_room
   two_laws = record {
-    young = λ t. All-append (λ x. x.1 < two_life t) (first_list t) (second_list t) (all_under (two_life t) (a.list t.first)) (All-take (λ x. x.1 < two_life t) (65535 - length (first_list t)) (filter (under (two_life t)) (b.list t.second)) (all_under (two_life t) (b.list t.second)));
-    fits = λ t. omega (arith, length-append (first_list t) (second_list t), length-take (65535 - length (first_list t)) (filter (under (two_life t)) (b.list t.second)), length-kept (under (two_life t)) (a.list t.first), length-kept (under (two_life t)) (b.list t.second), a.laws.fits t.first, a.laws.small t.first, b.laws.fits t.second);
+    young = λ t. All-append (λ x. x.1 < two_life t) (first_list t) (second_list t) (all_under (two_life t) (a.list t.first)) (All-take _ _ _ (all_under (two_life t) (b.list t.second)));
+    fits = λ t. simp (length-append, length-take) (omega (arith, length-kept (under (two_life t)) (a.list t.first), length-kept (under (two_life t)) (b.list t.second), a.laws.fits t.first, a.laws.small t.first, b.laws.fits t.second));
     alive = λ t. omega (arith, a.laws.alive t.first, b.laws.alive t.second);
     brief = λ t. omega (arith, a.laws.brief t.first, b.laws.brief t.second);
     small = λ t. omega arith;

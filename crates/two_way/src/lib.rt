@@ -1,8 +1,10 @@
 // Two carriers joined: the list of the first, then that of the second.
 #![tactic(auto)]
 
-ghost use Rattle.std.specs.Prelude.{◌≡◌, ◌+◌, min, []};
-ghost use Rattle.two_way.specs.TwoWays.{Filled, PutWay, SameLives, SameRooms, first_list, second_list, two_list, two_life, two_room, two_laws};
+ghost use Rattle.std.specs.Prelude.{◌≡◌, ◌+◌, ◌≤◌, min, [], length};
+ghost use Rattle.carrier.specs.Carriers.{SameBounds};
+ghost use Rattle.walk.specs.Walks.{Young};
+ghost use Rattle.two_way.specs.TwoWays.{PutWay, SameBoth, first_list, second_list, two_list, two_life, two_room, two_laws};
 
 use carrier::Carrier;
 use walk::{count_young, show_young, strike_all, strike_from, strike_old};
@@ -29,23 +31,14 @@ impl<A: Carrier, B: Carrier> TwoWay<A, B> {
     // Strikes every frame of both.
     pub fn new(mut first: A, mut second: B) -> TwoWay<A, B>
         ensures struck { (A.Carrier.list result.first ≡ []) × (B.Carrier.list result.second ≡ []) }
-        ensures lives { (A.Carrier.life result.first ≡ A.Carrier.life first) × (B.Carrier.life result.second ≡ B.Carrier.life second) }
-        ensures rooms { (A.Carrier.room result.first ≡ A.Carrier.room first) × (B.Carrier.room result.second ≡ B.Carrier.room second) }
+        ensures first { SameBounds A.Carrier.life A.Carrier.room first result.first }
+        ensures second { SameBounds B.Carrier.life B.Carrier.room second result.second }
         ensures list { two_list A.Carrier B.Carrier result ≡ [] }
         ensures life { two_life A.Carrier B.Carrier result ≡ min (A.Carrier.life first) (B.Carrier.life second) }
         ensures room { two_room A.Carrier B.Carrier result ≡ min 65535 (A.Carrier.room first + B.Carrier.room second) }
     {
         strike_all(&mut first);
         strike_all(&mut second);
-        TwoWay::over(first, second)
-    }
-
-    fn over(first: A, second: B) -> TwoWay<A, B>
-        requires { (A.Carrier.list first ≡ []) × (B.Carrier.list second ≡ []) }
-        ensures first { result.first ≡ first }
-        ensures second { result.second ≡ second }
-        ensures list { two_list A.Carrier B.Carrier result ≡ [] }
-    {
         TwoWay { first, second }
     }
 
@@ -60,8 +53,10 @@ impl<A: Carrier, B: Carrier> TwoWay<A, B> {
     fn settle(&mut self)
         ensures first { A.Carrier.list self.new.first ≡ first_list A.Carrier B.Carrier self.old }
         ensures second { B.Carrier.list self.new.second ≡ second_list A.Carrier B.Carrier self.old }
-        ensures lives { SameLives A.Carrier B.Carrier self.old self.new }
-        ensures rooms { SameRooms A.Carrier B.Carrier self.old self.new }
+        ensures young_first { Young (two_life A.Carrier B.Carrier self.old) (A.Carrier.list self.new.first) }
+        ensures young_second { Young (two_life A.Carrier B.Carrier self.old) (B.Carrier.list self.new.second) }
+        ensures within { length (A.Carrier.list self.new.first) + length (B.Carrier.list self.new.second) ≤ 65535 }
+        ensures bounds { SameBoth A.Carrier B.Carrier self.old self.new }
     {
         let life = self.lifetime();
         strike_old(&mut self.first, life);
@@ -70,12 +65,12 @@ impl<A: Carrier, B: Carrier> TwoWay<A, B> {
         strike_from(&mut self.second, left);
     }
 
-    // Puts a frame into the first while it has room, and else into the second.
-    fn fill(&mut self, frame: Frame) -> Result<Way, Refusal>
-        ensures way { Filled (A.Carrier.room self.old.first) (B.Carrier.room self.old.second) frame (A.Carrier.list self.old.first) (B.Carrier.list self.old.second) result (A.Carrier.list self.new.first) (B.Carrier.list self.new.second) }
-        ensures lives { SameLives A.Carrier B.Carrier self.old self.new }
-        ensures rooms { SameRooms A.Carrier B.Carrier self.old self.new }
+    // A put that says which of the two took the frame: the first while it has room, and else the second.
+    pub fn put_way(&mut self, frame: Frame) -> Result<Way, Refusal>
+        ensures way { PutWay A.Carrier B.Carrier frame self.old result self.new }
+        ensures bounds { SameBoth A.Carrier B.Carrier self.old self.new }
     {
+        self.settle();
         if self.first.count() + self.second.count() >= MOST {
             return Err(Refusal::CarrierFull);
         }
@@ -86,16 +81,6 @@ impl<A: Carrier, B: Carrier> TwoWay<A, B> {
             self.second.put(frame)?;
             Ok(Way::Second)
         }
-    }
-
-    // A put that says which of the two took the frame.
-    pub fn put_way(&mut self, frame: Frame) -> Result<Way, Refusal>
-        ensures way { PutWay A.Carrier B.Carrier frame self.old result self.new }
-        ensures lives { SameLives A.Carrier B.Carrier self.old self.new }
-        ensures rooms { SameRooms A.Carrier B.Carrier self.old self.new }
-    {
-        self.settle();
-        self.fill(frame)
     }
 }
 
@@ -109,10 +94,10 @@ impl<A: Carrier, B: Carrier> Carrier for TwoWay<A, B> {
     ghost laws = { two_laws A.Carrier B.Carrier };
 
     fn put(&mut self, frame: Frame) -> Result<(), Refusal> {
-        self.put_way(frame)?;
-        Ok(())
+        self.put_way(frame).map(|_| ())
     }
 
+    #[tactic(auto, using(walk::proofs::Youngs::few_young, crate::proofs::TwoWays::length_joint))]
     fn count(&self) -> u32 {
         let life = self.lifetime();
         let both = count_young(&self.first, life) + count_young(&self.second, life);
@@ -131,6 +116,7 @@ impl<A: Carrier, B: Carrier> Carrier for TwoWay<A, B> {
         }
     }
 
+    #[tactic(auto, using(crate::proofs::TwoWays::strike_first, crate::proofs::TwoWays::strike_second))]
     fn strike(&mut self, place: u32) -> Result<(), Refusal> {
         self.settle();
         let first = self.first.count();
@@ -141,6 +127,7 @@ impl<A: Carrier, B: Carrier> Carrier for TwoWay<A, B> {
         }
     }
 
+    #[tactic(auto, using(crate::proofs::TwoWays::tick_both))]
     fn tick(&mut self) {
         self.settle();
         self.first.tick();

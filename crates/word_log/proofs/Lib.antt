@@ -1,1 +1,1 @@
-mod Quads
+mod Logged

@@ -1,7 +1,12 @@
-use Rattle.std.proofs.Common.{sym, refl, arith}
-use Rattle.walk.proofs.Youngs.{kept_within, young_within}
+use Rattle.std.proofs.Common.{arith, rules}
+use Rattle.std.proofs.lemmas.Grind.{common_steps}
+use Rattle.walk.proofs.Youngs.{old_removed, rest_removed}
 use Rattle.walk.proofs.strike_old.Goals as goal
 
-pub returns-else-lifetime-life : goal.returns-else-lifetime-life
-returns-else-lifetime-life g c =
-    record { list = sym (kept_within g.C.Carrier c.args.c.now c.args.life (omega arith)); young = young_within g.C.Carrier c.args.c.now c.args.life (omega arith); life = refl; room = refl }
+pub loop-n-preserved-in-loop-n : goal.loop-n-preserved-in-loop-n
+loop-n-preserved-in-loop-n g c = record {
+  below = grind (arith, common_steps);
+  same = grind (arith, old_removed);
+  clean = grind (arith, rest_removed);
+  bounds = search rules;
+}

@@ -1,0 +1,35 @@
+// The frames of any carrier in order, each with its age.
+ghost use Rattle.std.specs.Prelude.{◌≡◌};
+ghost use Rattle.std.specs.Iterator.{YieldsFirst, item_count};
+ghost use Rattle.walk.specs.Frames.{frames_left};
+
+use carrier::Carrier;
+use wire::Frame;
+
+#[derive(Drop)]
+pub struct Frames<'a, C> {
+    carrier: &'a C,
+    next: u32,
+}
+
+impl<'a, C: Carrier> Frames<'a, C> {
+    pub fn of(carrier: &'a C) -> Frames<'a, C>
+        ensures { frames_left C.Carrier result ≡ C.Carrier.list carrier.now }
+    {
+        Frames { carrier, next: 0 }
+    }
+}
+
+impl<C: Carrier> Iterator for Frames<'_, C> {
+    type Item = (Frame, u32);
+
+    ghost next_gives = { YieldsFirst (frames_left C.Carrier) };
+
+    ghost remaining = { item_count (frames_left C.Carrier) };
+
+    fn next(&mut self) -> Option<(Frame, u32)> {
+        let shown = self.carrier.show(self.next).ok()?;
+        self.next += 1;
+        Some(shown)
+    }
+}
