@@ -15,10 +15,7 @@ mod tests {
 
     // The number of the refusal that terms meet, or 0.
     fn refusal(terms: Result<Terms, Refusal>) -> u8 {
-        match terms {
-            Ok(_) => 0,
-            Err(refusal) => refusal.number(),
-        }
+        terms.err().map_or(0, Refusal::number)
     }
 
     #[test]

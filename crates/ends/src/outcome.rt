@@ -1,4 +1,4 @@
-// How a path ended.
+// How a path ended. Not a `Result`: an unsure end is no refusal, and no `?` may pass over it.
 #[derive(Clone, Copy)]
 pub enum Outcome {
     // sealed, and every accepted entry was heard of

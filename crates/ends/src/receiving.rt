@@ -25,8 +25,7 @@ impl Receiver {
         ensures value { result ≡ self.terms.receive_window + self.nd - self.nr }
         ensures bound { result ≤ 4096 }
     {
-        let terms = self.terms;
-        (u64::from(terms.receive_window()) + self.nd - self.nr) as u16
+        (u64::from(self.terms.receive_window()) + self.nd - self.nr) as u16
     }
 
     // Where nr has to stop: at a place that is not yet delivered, and past a million blocks and their end mark.
@@ -34,8 +33,7 @@ impl Receiver {
         ensures value { result ≡ min (self.nd + self.terms.receive_window) 1000001 }
         ensures above { self.nr ≤ result }
     {
-        let terms = self.terms;
-        (self.nd + u64::from(terms.receive_window())).min(1_000_001)
+        (self.nd + u64::from(self.terms.receive_window())).min(1_000_001)
     }
 
     // The whole number that a cyclic one is read under; none where there is no room for it.
@@ -50,34 +48,13 @@ impl Receiver {
         }
     }
 
-    // nr went up.
-    pub(crate) fn risen(mut self, nr: u64) -> Receiver
-        requires { (self.nr ≤ nr) × (nr ≤ min (self.nd + self.terms.receive_window) 1000001) }
-        ensures nr { result.nr ≡ nr }
-        ensures nd { result.nd ≡ self.nd }
-        ensures terms { result.terms ≡ self.terms }
-    {
-        self.nr = nr;
-        self
-    }
-
     // nr goes up to a number, never down and never past its limit.
     pub fn rise(&mut self, nr: u64)
         ensures nr { self.new.nr ≡ min (max self.old.nr nr) (min (self.old.nd + self.old.terms.receive_window) 1000001) }
         ensures nd { self.new.nd ≡ self.old.nd }
         ensures terms { self.new.terms ≡ self.old.terms }
     {
-        *self = self.risen(self.nr.max(nr).min(self.limit()));
-    }
-
-    // Entry nd was delivered.
-    pub(crate) fn delivered(mut self) -> Receiver
-        requires { self.nd < self.nr }
-        ensures numbers { gets_of result ≡ one_delivered (gets_of self) }
-        ensures terms { result.terms ≡ self.terms }
-    {
-        self.nd += 1;
-        self
+        self.nr = self.nr.max(nr).min(self.limit());
     }
 
     // Refuses where every entry in sequence was delivered.
@@ -97,7 +74,7 @@ impl Receiver {
         ensures terms { self.new.terms ≡ self.old.terms }
     {
         if self.nd < self.nr {
-            *self = self.delivered();
+            self.nd += 1;
         }
     }
 }

@@ -16,7 +16,7 @@ pub struct Sender {
     pub sw: u32,
     // ticks since the last first send, at most the gap
     pub rest: u32,
-    // whether the end mark was accepted
+    // whether the end mark was accepted; it goes with no one value, and the counts above go on after it
     pub sealed: bool,
     ghost order: { (na ≤ ns) × (ns ≤ ng) × (ng ≤ na + terms.send_window) },
     ghost count: { ng ≤ (if sealed then 1000001 else 1000000) },

@@ -29,8 +29,7 @@ impl Sender {
     fn open(self) -> Result<(), Refusal>
         ensures { Checked (accept_stop self.terms (sends_of self) None) result }
     {
-        let terms = self.terms;
-        if self.ng - self.na == u64::from(terms.send_window()) {
+        if self.ng - self.na == u64::from(self.terms.send_window()) {
             return Err(Refusal::SenderStoreFull);
         }
         if self.sealed {
@@ -40,24 +39,13 @@ impl Sender {
     }
 
     // One entry more; the last one is the end mark.
-    pub(crate) fn accepted(mut self, last: bool) -> Sender
+    fn accepted(mut self, last: bool) -> Sender
         requires { (self.ng < self.na + self.terms.send_window) × (self.ng < (if last then 1000001 else 1000000)) }
         ensures numbers { sends_of result ≡ one_accepted last (sends_of self) }
         ensures terms { result.terms ≡ self.terms }
     {
         self.ng += 1;
         self.sealed = last;
-        self
-    }
-
-    // Entry ns was sent, and the rest begins.
-    pub(crate) fn sent(mut self) -> Sender
-        requires { self.ns < self.ng }
-        ensures numbers { sends_of result ≡ one_sent (sends_of self) }
-        ensures terms { result.terms ≡ self.terms }
-    {
-        self.ns += 1;
-        self.rest = 0;
         self
     }
 
@@ -81,20 +69,21 @@ impl Sender {
     }
 
     // Entry ns is sent for the first time, and the rest begins.
-    pub fn send(self) -> Result<Sender, Refusal>
+    pub fn send(mut self) -> Result<Sender, Refusal>
         ensures { Stepped self.terms (send_stop self.terms (sends_of self) None) (one_sent (sends_of self)) result }
     {
-        let terms = self.terms;
         if self.ns == self.ng {
             return Err(Refusal::NothingToSend);
         }
         if self.ns >= self.na + u64::from(self.sw) {
             return Err(Refusal::WindowClosed);
         }
-        if self.rest < terms.gap() {
+        if self.rest < self.terms.gap() {
             return Err(Refusal::TooSoon);
         }
-        Ok(self.sent())
+        self.ns += 1;
+        self.rest = 0;
+        Ok(self)
     }
 
     // Refuses an entry `j` past na that was not sent, or was heard of.
@@ -121,38 +110,18 @@ impl Sender {
         if far <= self.ns - self.na { far } else { 0 }
     }
 
-    // An acknowledgement `far` past na with a window was heard; one past ns is not heeded.
-    pub(crate) fn heard(mut self, far: u64, window: u16) -> Sender
-        ensures numbers { sends_of result ≡ hearing self.terms.send_window far window (sends_of self) }
-        ensures terms { result.terms ≡ self.terms }
+    // An acknowledgement `far` past na with a window is heard; one past ns is not heeded.
+    pub fn hear(&mut self, far: u64, window: u16)
+        ensures numbers { sends_of self.new ≡ hearing self.old.terms.send_window far window (sends_of self.old) }
+        ensures terms { self.new.terms ≡ self.old.terms }
     {
-        let terms = self.terms;
-        let told = u32::from(window).min(terms.send_window());
+        let told = u32::from(window).min(self.terms.send_window());
         if far == 0 {
             self.sw = self.sw.max(told);
         } else if far <= self.ns - self.na {
             self.na += far;
             self.sw = told;
         }
-        self
-    }
-
-    // An acknowledgement `far` past na with a window is heard; one past ns is not heeded.
-    pub fn hear(&mut self, far: u64, window: u16)
-        ensures numbers { sends_of self.new ≡ hearing self.old.terms.send_window far window (sends_of self.old) }
-        ensures terms { self.new.terms ≡ self.old.terms }
-    {
-        *self = self.heard(far, window);
-    }
-
-    // A tick passed: the rest grows up to the gap.
-    pub(crate) fn rested(mut self) -> Sender
-        ensures numbers { sends_of result ≡ rested self.terms.gap (sends_of self) }
-        ensures terms { result.terms ≡ self.terms }
-    {
-        let terms = self.terms;
-        self.rest = (self.rest + 1).min(terms.gap());
-        self
     }
 
     // A tick passes: the rest grows up to the gap.
@@ -160,7 +129,7 @@ impl Sender {
         ensures numbers { sends_of self.new ≡ rested self.old.terms.gap (sends_of self.old) }
         ensures terms { self.new.terms ≡ self.old.terms }
     {
-        *self = self.rested();
+        self.rest = (self.rest + 1).min(self.terms.gap());
     }
 
     // What the end of the path says.

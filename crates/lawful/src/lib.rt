@@ -42,10 +42,7 @@ mod tests {
     use std::test::Fail;
 
     fn agreed() -> Result<Terms, Fail> {
-        match Terms::new(2, 2, 3, 2, 6) {
-            Ok(terms) => Ok(terms),
-            Err(_) => Err(Fail::new("these terms are in range")),
-        }
+        Terms::new(2, 2, 3, 2, 6).map_err(|_| Fail::new("these terms are in range"))
     }
 
     #[test]
@@ -53,17 +50,16 @@ mod tests {
         let (refused, offered, outcome) = call_after_refusal(agreed()?);
         assert!(rt; refused.is_err());
         assert!(rt; offered.is_ok());
-        match outcome {
-            Outcome::Complete => Err(Fail::new("nothing was heard of")),
-            Outcome::Unsure {
-                heard,
-                sent,
-                accepted,
-            } => {
-                assert!(rt; heard == 0 && sent == 0 && accepted == 1);
-                Ok(())
-            },
-        }
+        let Outcome::Unsure {
+            heard,
+            sent,
+            accepted,
+        } = outcome
+        else {
+            return Err(Fail::new("nothing was heard of"));
+        };
+        assert!(rt; heard == 0 && sent == 0 && accepted == 1);
+        Ok(())
     }
 
     #[test]

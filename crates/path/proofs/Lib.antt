@@ -1,2 +1,1 @@
-mod Rows
 mod Rolls

@@ -11,9 +11,7 @@ impl<O: Carrier, K: Carrier> Path<O, K> {
     pub fn lose_outward(&mut self, place: u32) -> Result<(), Refusal>
         ensures { LostOut place (ends_of O.Carrier K.Carrier self.old) result (ends_of O.Carrier K.Carrier self.new) }
     {
-        if let Some(refusal) = self.refused {
-            return Err(refusal);
-        }
+        self.made()?;
         self.out.strike(place)
     }
 
@@ -21,9 +19,7 @@ impl<O: Carrier, K: Carrier> Path<O, K> {
     pub fn lose_back(&mut self, place: u32) -> Result<(), Refusal>
         ensures { LostBack place (ends_of O.Carrier K.Carrier self.old) result (ends_of O.Carrier K.Carrier self.new) }
     {
-        if let Some(refusal) = self.refused {
-            return Err(refusal);
-        }
+        self.made()?;
         self.back.strike(place)
     }
 
@@ -31,9 +27,7 @@ impl<O: Carrier, K: Carrier> Path<O, K> {
     pub fn tick(&mut self) -> Result<(), Refusal>
         ensures { Ticked (ends_of O.Carrier K.Carrier self.old) result (ends_of O.Carrier K.Carrier self.new) }
     {
-        if let Some(refusal) = self.refused {
-            return Err(refusal);
-        }
+        self.made()?;
         self.out.tick();
         self.back.tick();
         self.sender.rest();

@@ -5,6 +5,7 @@ mod air;
 mod edges;
 mod entry;
 mod framing;
+mod lending;
 mod making;
 mod path;
 mod putting;

@@ -14,25 +14,6 @@ use store::WindowStore;
 use wire::{Refusal, Terms};
 
 impl<O: Carrier, K: Carrier> Path<O, K> {
-    // Why a path cannot be made of these.
-    fn bar(terms: Terms, out: &O, back: &K, places: u64) -> Option<Refusal>
-        ensures { result ≡ bar_of O.Carrier K.Carrier terms out.now back.now places }
-    {
-        if out.lifetime() > terms.lifetime() || back.lifetime() > terms.lifetime() {
-            return Some(Refusal::LifetimeTooLong);
-        }
-        if out.count() > 0 || back.count() > 0 {
-            return Some(Refusal::CarrierNotEmpty);
-        }
-        if places != u64::from(terms.receive_window()) {
-            return Some(Refusal::ReceiverStoreLength);
-        }
-        if out.capacity() == 0 || back.capacity() == 0 {
-            return Some(Refusal::NoCapacity);
-        }
-        None
-    }
-
     // Says whether making a path of these is refused.
     pub fn check<B: Copy>(
         terms: Terms,
@@ -42,10 +23,19 @@ impl<O: Carrier, K: Carrier> Path<O, K> {
     ) -> Result<(), Refusal>
         ensures { Checked (bar_of O.Carrier K.Carrier terms out.now back.now (length (stored got.now))) result }
     {
-        match Path::bar(terms, out, back, got.len()) {
-            Some(refusal) => Err(refusal),
-            None => Ok(()),
+        if out.lifetime() > terms.lifetime() || back.lifetime() > terms.lifetime() {
+            return Err(Refusal::LifetimeTooLong);
         }
+        if out.count() > 0 || back.count() > 0 {
+            return Err(Refusal::CarrierNotEmpty);
+        }
+        if got.len() != u64::from(terms.receive_window()) {
+            return Err(Refusal::ReceiverStoreLength);
+        }
+        if out.capacity() == 0 || back.capacity() == 0 {
+            return Err(Refusal::NoCapacity);
+        }
+        Ok(())
     }
 
     // Makes a path and empties the receiver's store. Against a refusal the store stays as found, and every call gives that refusal.
@@ -59,8 +49,8 @@ impl<O: Carrier, K: Carrier> Path<O, K> {
         ensures store { stored got.new ≡ emptied (bar_of O.Carrier K.Carrier terms out back (length (stored got.old))) (stored got.old) }
         ensures lender { got.new.places.ghost_name ≡ got.old.places.ghost_name }
     {
-        let refused = Path::bar(terms, &out, &back, got.len());
-        if let None = refused {
+        let refused = Path::check(terms, &out, &back, got).err();
+        if refused.is_none() {
             got.fill(None);
         }
         Path {

@@ -18,17 +18,11 @@ impl<O: Carrier, K: Carrier> Path<O, K> {
     ) -> Result<Content<B>, Refusal>
         ensures { ReadOut B.Block.reads place (ends_of O.Carrier K.Carrier self.now) (stored got.now) result }
     {
-        if let Some(refusal) = self.refused {
-            return Err(refusal);
-        }
-        let terms = self.receiver.terms;
-        if got.len() != u64::from(terms.receive_window()) {
-            return Err(Refusal::ReceiverStoreLength);
-        }
+        self.check_got(got)?;
         let (frame, _) = self.out.show(place)?;
         let end = End {
             side: Side::Receiver,
-            numbers: terms.numbers(),
+            numbers: self.receiver.terms.numbers(),
         };
         Ok(end.read::<B>(frame)?)
     }
@@ -37,9 +31,7 @@ impl<O: Carrier, K: Carrier> Path<O, K> {
     pub(crate) fn read_back(&self, place: u32) -> Result<Head, Refusal>
         ensures { ReadBack place (ends_of O.Carrier K.Carrier self.now) result }
     {
-        if let Some(refusal) = self.refused {
-            return Err(refusal);
-        }
+        self.made()?;
         let (frame, _) = self.back.show(place)?;
         let head = frame.head()?;
         let end = End {

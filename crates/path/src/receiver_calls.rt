@@ -19,11 +19,12 @@ fn climb<B: Block>(got: &WindowStore<Option<Entry<B>>>, from: u64, limit: u64) -
     requires { from ≤ limit }
     ensures { Risen (stored got.now) from limit result }
 {
-    let mut n = from;
-    while n < limit && got.read(n, None).is_some() {
-        n += 1;
+    for number in from..limit {
+        if got.read(number, None).is_none() {
+            return number;
+        }
     }
-    n
+    limit
 }
 
 // Writes what lay under a number into the book: a block, or nothing for the end mark or an empty place.
@@ -40,20 +41,6 @@ fn write_due<B: Block>(book: &mut [B], number: u64, due: Option<Entry<B>>) -> Re
 }
 
 impl<O: Carrier, K: Carrier> Path<O, K> {
-    // Refuses where the making was refused, and a receiver's store of the wrong length.
-    fn check_got(&self, places: u64) -> Result<(), Refusal>
-        ensures bar { IfErr result (λ f. lend_bar self.now.refused places self.now.receiver.terms.receive_window ReceiverStoreLength ≡ Some f) }
-        ensures free { OnOk result ((self.now.refused ≡ None) × (places ≡ self.now.receiver.terms.receive_window)) }
-    {
-        if let Some(refusal) = self.refused {
-            return Err(refusal);
-        }
-        if places != u64::from(self.receiver.terms.receive_window()) {
-            return Err(Refusal::ReceiverStoreLength);
-        }
-        Ok(())
-    }
-
     // Stores the entry of a content where there is room for it, and lets nr rise.
     fn take<B: Block>(
         &mut self,
@@ -94,7 +81,7 @@ impl<O: Carrier, K: Carrier> Path<O, K> {
         ensures delivered { Delivered (ends_of O.Carrier K.Carrier self.old) (stored got.old) book.old result (ends_of O.Carrier K.Carrier self.new) (stored got.new) book.new }
         ensures lender { got.new.places.ghost_name ≡ got.old.places.ghost_name }
     {
-        self.check_got(got.len())?;
+        self.check_got(got)?;
         let receiver = self.receiver;
         receiver.due()?;
         let number = receiver.nd;
@@ -108,9 +95,7 @@ impl<O: Carrier, K: Carrier> Path<O, K> {
     pub fn acknowledge(&mut self) -> Result<u64, Refusal>
         ensures acknowledged { Acknowledged (ends_of O.Carrier K.Carrier self.old) result (ends_of O.Carrier K.Carrier self.new) }
     {
-        if let Some(refusal) = self.refused {
-            return Err(refusal);
-        }
+        self.made()?;
         self.put_acknowledgement()?;
         Ok(self.receiver.nr)
     }

@@ -1,5 +1,6 @@
 // A round: what is due is delivered and heard of, and the lowest entry not heard of goes out and arrives.
-ghost use Rattle.std.specs.Prelude.{◌≡◌, List, Option};
+ghost use Rattle.std.specs.Prelude.{◌≡◌, List, Option, length};
+ghost use Rattle.ends.specs.Stops.{Checked};
 ghost use Rattle.path.specs.Rounds.{Ticks, Delivers, Opens, Lands, Closes, bar_with, Rounded};
 ghost use Rattle.path.specs.States.{ends_of, state_with, state_of};
 ghost use Rattle.store.specs.Stores.{stored};
@@ -82,24 +83,20 @@ impl<O: Carrier, K: Carrier> Path<O, K> {
         }
     }
 
-    // Why a round cannot be made.
-    fn round_bar(&self, kept: u64, got: u64) -> Option<Refusal>
-        ensures { result ≡ bar_with (ends_of O.Carrier K.Carrier self.now) kept got }
+    // Refuses a round where a store has the wrong length or a frame is in the air.
+    fn check_round<B: Copy>(
+        &self,
+        kept: &WindowStore<Entry<B>>,
+        got: &WindowStore<Option<Entry<B>>>,
+    ) -> Result<(), Refusal>
+        ensures { Checked (bar_with (ends_of O.Carrier K.Carrier self.now) (length (stored kept.now)) (length (stored got.now))) result }
     {
-        if let Some(refusal) = self.refused {
-            return Some(refusal);
-        }
-        let terms = self.sender.terms;
-        if kept != u64::from(terms.send_window()) {
-            return Some(Refusal::SenderStoreLength);
-        }
-        if got != u64::from(terms.receive_window()) {
-            return Some(Refusal::ReceiverStoreLength);
-        }
+        self.check_kept(kept)?;
+        self.check_got(got)?;
         if self.out.count() > 0 || self.back.count() > 0 {
-            return Some(Refusal::FrameInTheAir);
+            return Err(Refusal::FrameInTheAir);
         }
-        None
+        Ok(())
     }
 
     // A round over empty carriers, which answers how many entries were delivered.
@@ -112,9 +109,7 @@ impl<O: Carrier, K: Carrier> Path<O, K> {
         ensures rounded { Rounded B.Block (state_of O.Carrier K.Carrier self.old kept.now got.old book.old) result (state_of O.Carrier K.Carrier self.new kept.now got.new book.new) }
         ensures lender { got.new.places.ghost_name ≡ got.old.places.ghost_name }
     {
-        if let Some(refusal) = self.round_bar(kept.len(), got.len()) {
-            return Err(refusal);
-        }
+        self.check_round(kept, got)?;
         let delivered = self.open(got, book);
         self.close(kept, got);
         Ok(delivered)

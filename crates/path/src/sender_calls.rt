@@ -14,20 +14,6 @@ use store::WindowStore;
 use wire::{Block, Refusal};
 
 impl<O: Carrier, K: Carrier> Path<O, K> {
-    // Refuses where the making was refused, and a sender's store of the wrong length.
-    fn check_kept(&self, places: u64) -> Result<(), Refusal>
-        ensures bar { IfErr result (λ f. lend_bar self.now.refused places self.now.sender.terms.send_window SenderStoreLength ≡ Some f) }
-        ensures free { OnOk result ((self.now.refused ≡ None) × (places ≡ self.now.sender.terms.send_window)) }
-    {
-        if let Some(refusal) = self.refused {
-            return Err(refusal);
-        }
-        if places != u64::from(self.sender.terms.send_window()) {
-            return Err(Refusal::SenderStoreLength);
-        }
-        Ok(())
-    }
-
     // Accepts a block, and answers its number.
     pub fn offer<B: Block>(
         &mut self,
@@ -37,7 +23,7 @@ impl<O: Carrier, K: Carrier> Path<O, K> {
         ensures offered { Offered block (ends_of O.Carrier K.Carrier self.old) (stored kept.old) result (ends_of O.Carrier K.Carrier self.new) (stored kept.new) }
         ensures lender { kept.new.places.ghost_name ≡ kept.old.places.ghost_name }
     {
-        self.check_kept(kept.len())?;
+        self.check_kept(kept)?;
         let sender = self.sender;
         let next = sender.offer()?;
         kept.write(sender.ng, Entry::Block(block));
@@ -50,7 +36,7 @@ impl<O: Carrier, K: Carrier> Path<O, K> {
         ensures sealed { Sealed (ends_of O.Carrier K.Carrier self.old) (stored kept.old) result (ends_of O.Carrier K.Carrier self.new) (stored kept.new) }
         ensures lender { kept.new.places.ghost_name ≡ kept.old.places.ghost_name }
     {
-        self.check_kept(kept.len())?;
+        self.check_kept(kept)?;
         let sender = self.sender;
         let next = sender.seal()?;
         kept.write(sender.ng, Entry::EndMark);
@@ -62,7 +48,7 @@ impl<O: Carrier, K: Carrier> Path<O, K> {
     pub fn send<B: Block>(&mut self, kept: &WindowStore<Entry<B>>) -> Result<u64, Refusal>
         ensures sent { Sent B.Block.written (ends_of O.Carrier K.Carrier self.old) (stored kept.now) result (ends_of O.Carrier K.Carrier self.new) }
     {
-        self.check_kept(kept.len())?;
+        self.check_kept(kept)?;
         let sender = self.sender;
         let next = sender.send()?;
         self.put_entry(kept, sender.ns)?;
@@ -74,7 +60,7 @@ impl<O: Carrier, K: Carrier> Path<O, K> {
     pub fn resend<B: Block>(&mut self, kept: &WindowStore<Entry<B>>, j: u64) -> Result<u64, Refusal>
         ensures resent { Resent B.Block.written j (ends_of O.Carrier K.Carrier self.old) (stored kept.now) result (ends_of O.Carrier K.Carrier self.new) }
     {
-        self.check_kept(kept.len())?;
+        self.check_kept(kept)?;
         let sender = self.sender;
         sender.outstanding(j)?;
         let number = sender.na + j;

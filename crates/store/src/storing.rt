@@ -1,11 +1,12 @@
 // Making a window store, and reading and writing it by number.
-ghost use Rattle.std.specs.Prelude.{◌≡◌, length, replicate};
+ghost use Rattle.std.specs.Prelude.{◌≡◌, ◌%◌, ◌<◌, length, replicate, MatchOption};
 ghost use Rattle.store.specs.Stores.{stored, at_number, set-number};
 
 use crate::store::WindowStore;
 
 impl<'a, T: Copy> WindowStore<'a, T> {
     // A store over a slice of any length; the calls that it is lent to refuse a wrong one.
+    // `lender` says through which loan it writes. Every call that takes a store says it again, since no type holds it.
     pub fn new(places: &'a mut [T]) -> WindowStore<'a, T>
         ensures value { stored result ≡ places.old }
         ensures lender { result.places.ghost_name ≡ places.entry.ghost_name }
@@ -19,15 +20,22 @@ impl<'a, T: Copy> WindowStore<'a, T> {
         self.places.len() as u64
     }
 
+    // The place of a number; none where there is no place at all.
+    fn place(&self, number: u64) -> Option<usize>
+        ensures { MatchOption result (length (stored self.now) ≡ 0) (λ at. (at ≡ number % length (stored self.now)) × (at < length (stored self.now))) }
+    {
+        let at = number.checked_rem(self.len())?;
+        Some(at as usize)
+    }
+
     // What lies under a number; `none` where the store has no place at all.
     pub fn read(&self, number: u64, none: T) -> T
         ensures { result ≡ at_number none (stored self.now) number }
     {
-        let places: &[T] = self.places;
-        if places.len() == 0 {
+        let Some(at) = self.place(number) else {
             return none;
-        }
-        let at = (number % places.len() as u64) as usize;
+        };
+        let places: &[T] = self.places;
         places[at]
     }
 
@@ -36,9 +44,7 @@ impl<'a, T: Copy> WindowStore<'a, T> {
         ensures after { stored self.new ≡ set-number (stored self.old) number element }
         ensures lender { self.new.places.ghost_name ≡ self.old.places.ghost_name }
     {
-        let len = self.places.len() as u64;
-        if len > 0 {
-            let at = (number % len) as usize;
+        if let Some(at) = self.place(number) {
             self.places[at] = element;
         }
     }
@@ -52,10 +58,11 @@ impl<'a, T: Copy> WindowStore<'a, T> {
     }
 }
 
+// The slice's own `fill` asks for a clone that cannot fail, which no bound says of every `Copy` type.
 fn fill_all<T: Copy>(places: &mut [T], element: T)
     ensures { places.new ≡ replicate (length places.old) element }
 {
-    for i in 0..places.len() {
-        places[i] = element;
+    for place in places.iter_mut() {
+        *place = element;
     }
 }

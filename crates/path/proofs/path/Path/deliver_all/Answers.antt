@@ -17,15 +17,11 @@ loop-delivered-preserved g c =
       omega (arith, delivered_nd e e' (stored c.loop-delivered.got) (stored c.deliver.new.got) c.loop-delivered.book c.deliver.new.book _ told, inv.2),
     )
 
-pub returns : goal.returns
-returns g c =
+pub returns-clause-delivers : goal.returns-clause-delivers
+returns-clause-delivers g c =
     let e = ends_of g.O.Carrier g.K.Carrier c.loop-delivered.self in
     let e' = ends_of g.O.Carrier g.K.Carrier c.deliver.new.self in
     let told = c.in_default.ensures.delivered in
-    let inv = c.loop-delivered.invariant in
-    record {
-      delivers = λ kept.
-          inv.0 kept 0 c.loop-delivered.delivered (state_with e' kept (stored c.deliver.new.got) c.deliver.new.book) (omega arith)
-          (deliver_stop g.B.Block kept e e' (stored c.loop-delivered.got) (stored c.deliver.new.got) c.loop-delivered.book c.deliver.new.book _ told);
-      lender = c.deliver.ensures.lender ∙ inv.1;
-    }
+    λ kept.
+    c.loop-delivered.invariant.0 kept 0 c.loop-delivered.delivered (state_with e' kept (stored c.deliver.new.got) c.deliver.new.book) (omega arith)
+    (deliver_stop g.B.Block kept e e' (stored c.loop-delivered.got) (stored c.deliver.new.got) c.loop-delivered.book c.deliver.new.book _ told)
