@@ -1,5 +1,5 @@
 -- Each word of a script counts once. Assumes nothing.
-use Rattle.std.proofs.Common.{◌≡◌, ℕ, ◌+◌, ◌*◌, List, Ok, Err, Result, sym, refl, ap, ◌∙◌, ap₂, add-one, arith}
+use Rattle.std.proofs.Common.{◌≡◌, ℕ, ◌+◌, ◌*◌, List, Some, None, Option, Ok, Err, Result, sym, refl, ap, ◌∙◌, ap₂, add-one, arith}
 use Rattle.std.proofs.lemmas.Bool.Decides.{nat_tests}
 use Rattle.decode.specs.Decoding.{Script, termed, due_then, offered, by_phase, stepped, word_at, read_to}
 use Rattle.decode.specs.Words.{meaning_of}
@@ -14,11 +14,11 @@ use Rattle.refusal.specs.declared.fault.Fault.{Fault}
 termed_place : (w : ℕ) (s : Script) → (termed w s).place ≡ s.place
 termed_place w s = grind (arith, nat_tests)
 
-due_place : (d : Due) (s : Script) → (due_then d s).place ≡ s.place
-due_place (due.Call c) s = refl
-due_place due.Offer s = refl
-due_place due.End s = refl
-due_place due.Bad s = refl
+due_place : (d : Option Due) (s : Script) → (due_then d s).place ≡ s.place
+due_place (Some (due.Call c)) s = refl
+due_place (Some due.Offer) s = refl
+due_place (Some due.End) s = refl
+due_place None s = refl
 
 offered_place : (p : ℕ) (r : Result Command Fault) (s : Script) → (offered p r s).place ≡ s.place
 offered_place p (Ok c) s = refl

@@ -1,6 +1,6 @@
 -- A script word by word: five terms, then calls.
-use Rattle.std.specs.Prelude.{ℕ, zero, suc, ◌+◌, ◌*◌, ◌/◌, ◌^◌, min, Bool, true, false, cond, List, [], ◌∷◌, ◌++◌, length, Ok, Err, vec_items, Result, ◌==◌, nat_lt, slice_index}
-use Rattle.promise.specs.declared.call.Answer.TheVariants.{Done}
+use Rattle.std.specs.Prelude.{ℕ, zero, suc, ◌+◌, ◌*◌, ◌/◌, ◌^◌, min, Bool, true, false, cond, List, [], ◌∷◌, ◌++◌, length, Some, None, Ok, Err, vec_items, Option, Result, ◌==◌, nat_lt, slice_index}
+use Rattle.promise.specs.declared.call.Reply.TheVariants.{Done}
 use Rattle.promise.specs.declared.call.Call.{Call}
 use Rattle.promise.specs.declared.call.Call.TheVariants.{Offer}
 use Rattle.promise.specs.declared.call.Turn.{Turn}
@@ -31,7 +31,7 @@ with_phase p s = record { place = s.place; phase = p; terms = s.terms; turns = s
 
 -- one call more, still to be answered
 abbrev pub asked : Call Command → Script → Script
-asked c s = record { place = s.place; phase = s.phase; terms = s.terms; turns = s.turns ++ record { call = c; answer = Done } ∷ []; ended = s.ended }
+asked c s = record { place = s.place; phase = s.phase; terms = s.terms; turns = s.turns ++ record { call = c; answer = Ok Done } ∷ []; ended = s.ended }
 
 -- a term is a word of kind 1
 abbrev pub termed : ℕ → Script → Script
@@ -40,11 +40,11 @@ termed word s =
     (record { place = s.place; phase = cond (length (s.terms ++ argument_of word ∷ []) == 5) Calls s.phase; terms = s.terms ++ argument_of word ∷ []; turns = s.turns; ended = s.ended })
     (with_phase (Bad s.place) s)
 
-abbrev pub due_then : Due → Script → Script
-due_then (due.Call c) s = asked c s
-due_then due.Offer s = with_phase (First s.place) s
-due_then due.End s = record { place = s.place; phase = Ended; terms = s.terms; turns = s.turns; ended = true }
-due_then due.Bad s = with_phase (Bad s.place) s
+abbrev pub due_then : Option Due → Script → Script
+due_then (Some (due.Call c)) s = asked c s
+due_then (Some due.Offer) s = with_phase (First s.place) s
+due_then (Some due.End) s = record { place = s.place; phase = Ended; terms = s.terms; turns = s.turns; ended = true }
+due_then None s = with_phase (Bad s.place) s
 
 abbrev pub called : ℕ → Script → Script
 called word s = due_then (meaning_of word) s

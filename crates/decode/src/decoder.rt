@@ -11,5 +11,6 @@ pub struct Decoder {
     pub terms: Vec<u32>,
     // the calls, still to be answered
     pub turns: Vec<Turn<Command>>,
+    // whether the end was called, also where a bad word comes after it
     pub ended: bool,
 }

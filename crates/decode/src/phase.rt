@@ -11,6 +11,6 @@ pub enum Phase {
     Second(u32, u32),
     // the end was called
     Ended,
-    // the word at this place is bad
+    // the word at this place is bad; a phase and no error, since the calls before it still count
     Bad(u32),
 }

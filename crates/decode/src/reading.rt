@@ -1,40 +1,22 @@
 // The words of a script, one after the other, as terms and calls.
-ghost use Rattle.std.specs.Prelude.{◌≡◌, ◌+◌, ◌*◌, ◌^◌, ◌<◌, ◌≤◌, length, IfOk, OnOk};
-ghost use Rattle.decode.specs.Decoding.{script_of, asked, stepped, termed, called, commanded, word_at, read_to, finished, decoded_of};
+ghost use Rattle.std.specs.Prelude.{◌≡◌, ◌^◌, ◌<◌, IfOk, OnOk};
+ghost use Rattle.decode.specs.Decoding.{script_of, asked, stepped, termed, called, commanded, finished, decoded_of};
 
 use crate::decoder::Decoder;
+use crate::kind::{BadWord, Kind};
 use crate::phase::Phase;
-use crate::word::Due;
-use promise::{Answer, Call, Turn};
+use crate::word::{Due, parted};
+use promise::{Call, Reply, Turn};
 use std::alloc::{AllocError, Global};
 use wire::{Block, Command, Words};
 
 // The most words that a script has.
 const MOST: usize = 16384;
 
-// The word whose bytes begin at a place, most significant first.
-fn word_at(bytes: &[u8], at: usize) -> u32
-    requires { at + 4 ≤ length bytes.now }
-    ensures { result ≡ word_at bytes.now at }
-{
-    u32::from_be_bytes([bytes[at], bytes[at + 1], bytes[at + 2], bytes[at + 3]])
-}
-
 impl Decoder {
     // Reads a script: what it holds up to its end or its first bad word.
     pub fn read(heap: Global, bytes: &[u8]) -> Result<Decoder, AllocError>
         ensures { IfOk result (λ d. script_of d ≡ decoded_of bytes.now) }
-    {
-        let whole = (bytes.len() / 4).min(MOST);
-        let mut script = Decoder::first(heap, bytes, whole)?;
-        script.finish(4 * whole < bytes.len());
-        Ok(script)
-    }
-
-    // The first so many words.
-    fn first(heap: Global, bytes: &[u8], words: usize) -> Result<Decoder, AllocError>
-        requires { (4 * words ≤ length bytes.now) × (words ≤ 16384) }
-        ensures { IfOk result (λ d. script_of d ≡ read_to bytes.now words) }
     {
         let mut script = Decoder {
             place: 0,
@@ -43,9 +25,12 @@ impl Decoder {
             turns: Vec::new(heap),
             ended: false,
         };
-        for i in 0..words {
-            script.step(word_at(bytes, 4 * i))?;
+        let (words, _) = bytes.as_chunks::<4>();
+        let words = &words[..words.len().min(MOST)];
+        for word in words {
+            script.step(u32::from_be_bytes(*word))?;
         }
+        script.finish(4 * words.len() < bytes.len());
         Ok(script)
     }
 
@@ -54,8 +39,7 @@ impl Decoder {
         ensures { script_of self.new ≡ finished more (script_of self.old) }
     {
         match self.phase {
-            Phase::First(offer) => self.phase = Phase::Bad(offer),
-            Phase::Second(offer, _) => self.phase = Phase::Bad(offer),
+            Phase::First(offer) | Phase::Second(offer, _) => self.phase = Phase::Bad(offer),
             Phase::Bad(_) => {}
             _ if more => self.phase = Phase::Bad(self.place),
             _ => {}
@@ -65,7 +49,7 @@ impl Decoder {
     fn push(&mut self, call: Call<Command>) -> Result<(), AllocError>
         ensures { OnOk result (script_of self.new ≡ asked call (script_of self.old)) }
     {
-        let answer = Answer::Done;
+        let answer = Ok(Reply::Done);
         self.turns.push(Turn { call, answer })?;
         Ok(())
     }
@@ -74,11 +58,11 @@ impl Decoder {
     fn term(&mut self, word: u32) -> Result<(), AllocError>
         ensures { OnOk result (script_of self.new ≡ termed word (script_of self.old)) }
     {
-        if word >> 28 != 1 {
+        let (Ok(Kind::Term), argument) = parted(word) else {
             self.phase = Phase::Bad(self.place);
             return Ok(());
-        }
-        self.terms.push(word % 0x1000_0000)?;
+        };
+        self.terms.push(argument)?;
         if self.terms.len() == 5 {
             self.phase = Phase::Calls;
         }
@@ -89,14 +73,14 @@ impl Decoder {
     fn call(&mut self, word: u32) -> Result<(), AllocError>
         ensures { OnOk result (script_of self.new ≡ called word (script_of self.old)) }
     {
-        match Due::of(word) {
-            Due::Call(call) => self.push(call)?,
-            Due::Offer => self.phase = Phase::First(self.place),
-            Due::End => {
+        match Due::try_from(word) {
+            Ok(Due::Call(call)) => self.push(call)?,
+            Ok(Due::Offer) => self.phase = Phase::First(self.place),
+            Ok(Due::End) => {
                 self.phase = Phase::Ended;
                 self.ended = true;
             }
-            Due::Bad => self.phase = Phase::Bad(self.place),
+            Err(BadWord) => self.phase = Phase::Bad(self.place),
         }
         Ok(())
     }

@@ -5,7 +5,7 @@ use Rattle.std.proofs.lemmas.List.{take_more_set}
 use Rattle.carrier.specs.Carriers.{Aged}
 use Rattle.carrier.specs.declared.carrier.Carrier.{Ghosts as Carries}
 use Rattle.history.specs.Calls.{Makes}
-use Rattle.history.specs.Runs.{calls_of, first_state, Plays, Run}
+use Rattle.history.specs.Runs.{first_state, Plays, Run}
 use Rattle.path.specs.Events.{Event, JustMade}
 use Rattle.path.specs.Makings.{bar_of}
 use Rattle.path.specs.States.{State, Ends, state_with, setting_with, new_ends}
@@ -14,9 +14,8 @@ use Rattle.path.specs.declared.entry.Entry.{Entry}
 use Rattle.ends.specs.declared.outcome.Outcome.{Outcome}
 use Rattle.promise.proofs.Playing.{played_more, turns_promised}
 use Rattle.promise.proofs.Whole.{promise as kept-promise}
-use Rattle.promise.specs.Turns.{Turning, Played}
+use Rattle.promise.specs.Turns.{Answer, Turning, Played, calls_of}
 use Rattle.promise.specs.Turns.Played.{none}
-use Rattle.promise.specs.declared.call.Answer.{Answer}
 use Rattle.promise.specs.declared.call.Call.{Call}
 use Rattle.promise.specs.declared.call.Call.TheVariants.{Offer, Seal, Send, Resend, Arrive, Hear, Deliver, Acknowledge, LoseOutward, LoseBack, Tick, Round}
 use Rattle.promise.specs.declared.call.Turn.{Turn}

@@ -3,8 +3,7 @@ use Rattle.std.specs.Prelude.{◌≡◌, ℕ, Option, Result}
 use Rattle.path.specs.Events.{Step, offer, seal, send, resend, arrive, hear, deliver, acknowledge, lose_out, lose_back, tick}
 use Rattle.path.specs.Rounds.{Rounded}
 use Rattle.path.specs.States.{State}
-use Rattle.promise.specs.Turns.{numbered, taken, finished}
-use Rattle.promise.specs.declared.call.Answer.{Answer}
+use Rattle.promise.specs.Turns.{Answer, numbered, taken, finished}
 use Rattle.promise.specs.declared.call.Call.{Call}
 use Rattle.promise.specs.declared.call.Call.TheVariants.{Offer, Seal, Send, Resend, Arrive, Hear, Deliver, Acknowledge, LoseOutward, LoseBack, Tick, Round}
 use Rattle.wire.specs.declared.block.Block.{Ghosts}

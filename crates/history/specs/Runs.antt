@@ -1,5 +1,5 @@
 -- One run of a list of calls on a path, from its making to its end.
-use Rattle.std.specs.Prelude.{◌≡◌, List, [], ◌∷◌, length, Option}
+use Rattle.std.specs.Prelude.{◌≡◌, List, length, Option}
 use Rattle.carrier.specs.Carriers.{Aged}
 use Rattle.carrier.specs.declared.carrier.Carrier.{Ghosts as Carries}
 use Rattle.path.specs.Events.{Event}
@@ -9,15 +9,10 @@ use Rattle.path.specs.Steps.{emptied, outcome_of}
 use Rattle.path.specs.declared.entry.Entry.{Entry}
 use Rattle.ends.specs.declared.outcome.Outcome.{Outcome}
 use Rattle.promise.specs.Promise.{Promise}
-use Rattle.promise.specs.Turns.{Played, Replayed}
-use Rattle.promise.specs.declared.call.Call.{Call}
+use Rattle.promise.specs.Turns.{Played, Replayed, calls_of}
 use Rattle.promise.specs.declared.call.Turn.{Turn}
 use Rattle.wire.specs.declared.block.Block.{Ghosts}
 use Rattle.terms.specs.declared.agreed.Terms.{Terms}
-
-abbrev pub calls_of : {B : Type 0} → List (Turn B) → List (Call B)
-calls_of [] = []
-calls_of (t ∷ ts) = t.call ∷ calls_of ts
 
 module _ {O K B : Type 0} (o : Carries O) (k : Carries K) where
   -- a path just made of terms, two carriers and what is lent to it; accepted or refused

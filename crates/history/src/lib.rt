@@ -5,3 +5,4 @@ mod playing;
 mod turns;
 
 pub use playing::replay;
+pub use turns::make_call;

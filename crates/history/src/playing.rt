@@ -1,7 +1,8 @@
 // A list of calls on one fresh path, from its making to its end.
 ghost use Rattle.std.specs.Prelude.{◌≡◌};
-ghost use Rattle.history.specs.Runs.{Plays, Run, calls_of, first_state};
+ghost use Rattle.history.specs.Runs.{Plays, Run, first_state};
 ghost use Rattle.path.specs.States.{state_of};
+ghost use Rattle.promise.specs.Turns.{calls_of};
 
 use crate::turns::make_call;
 use carrier::Carrier;
@@ -22,10 +23,8 @@ fn play<B: Block, O: Carrier, K: Carrier>(
     ensures kept_lender { kept.new.places.ghost_name ≡ kept.old.places.ghost_name }
     ensures got_lender { got.new.places.ghost_name ≡ got.old.places.ghost_name }
 {
-    for i in 0..turns.len() {
-        let call = turns[i].call;
-        let answer = make_call(path, kept, got, book, call);
-        turns[i] = Turn { call, answer };
+    for turn in turns.iter_mut() {
+        turn.answer = make_call(path, kept, got, book, turn.call);
     }
 }
 

@@ -2,48 +2,20 @@
 ghost use Rattle.std.specs.Prelude.{◌≡◌};
 ghost use Rattle.history.specs.Calls.{Makes};
 ghost use Rattle.path.specs.States.{state_of};
-ghost use Rattle.promise.specs.Turns.{numbered, finished, taken};
 
 use carrier::Carrier;
 use path::{Entry, Path, WindowStore};
-use promise::{Answer, Call};
+use promise::{Call, Reply};
 use wire::{Block, Refusal};
 
-fn answer(r: Result<u64, Refusal>) -> Answer
-    ensures { result ≡ numbered r }
-{
-    match r {
-        Ok(n) => Answer::Number(n),
-        Err(refusal) => Answer::Refused(refusal),
-    }
-}
-
-fn finish(r: Result<(), Refusal>) -> Answer
-    ensures { result ≡ finished r }
-{
-    match r {
-        Ok(()) => Answer::Done,
-        Err(refusal) => Answer::Refused(refusal),
-    }
-}
-
-fn arrival(r: Result<Option<u64>, Refusal>) -> Answer
-    ensures { result ≡ taken r }
-{
-    match r {
-        Ok(Some(n)) => Answer::Number(n),
-        Ok(None) => Answer::Ignored,
-        Err(refusal) => Answer::Refused(refusal),
-    }
-}
-
-pub(crate) fn make_call<B: Block, O: Carrier, K: Carrier>(
+// Makes the call that a value names. Calls are values, no closures, since the promise speaks of lists of them.
+pub fn make_call<B: Block, O: Carrier, K: Carrier>(
     path: &mut Path<O, K>,
     kept: &mut WindowStore<Entry<B>>,
     got: &mut WindowStore<Option<Entry<B>>>,
     book: &mut [B],
     call: Call<B>,
-) -> Answer
+) -> Result<Reply, Refusal>
     ensures makes { Makes B.Block (state_of O.Carrier K.Carrier path.old kept.old got.old book.old) call result (state_of O.Carrier K.Carrier path.new kept.new got.new book.new) }
     ensures kept_lender { kept.new.places.ghost_name ≡ kept.old.places.ghost_name }
     ensures got_lender { got.new.places.ghost_name ≡ got.old.places.ghost_name }
@@ -51,18 +23,20 @@ pub(crate) fn make_call<B: Block, O: Carrier, K: Carrier>(
     match call {
         Call::Offer(block) => {
             let _words = block.words();
-            answer(path.offer(kept, block))
+            path.offer(kept, block).map(Reply::Number)
         }
-        Call::Seal => answer(path.seal(kept)),
-        Call::Send => answer(path.send(kept)),
-        Call::Resend(j) => answer(path.resend(kept, j)),
-        Call::Arrive(place) => arrival(path.arrive(place, got)),
-        Call::Hear(place) => answer(path.hear(place)),
-        Call::Deliver => answer(path.deliver(got, book)),
-        Call::Acknowledge => answer(path.acknowledge()),
-        Call::LoseOutward(place) => finish(path.lose_outward(place)),
-        Call::LoseBack(place) => finish(path.lose_back(place)),
-        Call::Tick => finish(path.tick()),
-        Call::Round => answer(path.round(kept, got, book)),
+        Call::Seal => path.seal(kept).map(Reply::Number),
+        Call::Send => path.send(kept).map(Reply::Number),
+        Call::Resend(j) => path.resend(kept, j).map(Reply::Number),
+        Call::Arrive(place) => path
+            .arrive(place, got)
+            .map(|number| number.map_or(Reply::Ignored, Reply::Number)),
+        Call::Hear(place) => path.hear(place).map(Reply::Number),
+        Call::Deliver => path.deliver(got, book).map(Reply::Number),
+        Call::Acknowledge => path.acknowledge().map(Reply::Number),
+        Call::LoseOutward(place) => path.lose_outward(place).map(|()| Reply::Done),
+        Call::LoseBack(place) => path.lose_back(place).map(|()| Reply::Done),
+        Call::Tick => path.tick().map(|()| Reply::Done),
+        Call::Round => path.round(kept, got, book).map(Reply::Number),
     }
 }

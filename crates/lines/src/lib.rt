@@ -3,4 +3,4 @@
 
 mod line;
 
-pub use line::{Line, Said};
+pub use line::Line;

@@ -1,25 +1,18 @@
 // One printed line: of a call, of the end, of refused terms or of a bad word.
 ghost use Rattle.std.specs.Prelude.{◌≡◌, Some};
-ghost use Rattle.lines.specs.Lines.{kind_number, refusal_in, said_of, line_of, said_text, line_text};
+ghost use Rattle.lines.specs.Lines.{line_of, line_text};
 
-use promise::{Answer, Call, Turn};
+use decode::Kind;
+use promise::{Reply, Turn};
 use std::fmt;
-use wire::Command;
-
-// What a line shows last: a number, or nothing.
-#[derive(Clone, Copy)]
-pub enum Said {
-    Number(u64),
-    Nothing,
-}
+use wire::{Command, Refusal};
 
 #[derive(Clone, Copy)]
 pub enum Line {
     Call {
         position: u64,
-        kind: u8,
-        refusal: u8,
-        said: Said,
+        kind: Kind,
+        answer: Result<Reply, Refusal>,
     },
     Complete {
         position: u64,
@@ -28,50 +21,11 @@ pub enum Line {
         position: u64,
     },
     Terms {
-        refusal: u8,
+        refusal: Refusal,
     },
     Bad {
         place: u32,
     },
-}
-
-// The number of a call's kind.
-fn kind(call: Call<Command>) -> u8
-    ensures { result ≡ kind_number call }
-{
-    match call {
-        Call::Offer(_) => 2,
-        Call::Seal => 3,
-        Call::Send => 4,
-        Call::Resend(_) => 5,
-        Call::Arrive(_) => 6,
-        Call::Hear(_) => 7,
-        Call::Deliver => 8,
-        Call::Acknowledge => 9,
-        Call::LoseOutward(_) => 10,
-        Call::LoseBack(_) => 11,
-        Call::Tick => 12,
-        Call::Round => 13,
-    }
-}
-
-// The refusal's number, or 0.
-fn refusal(answer: Answer) -> u8
-    ensures { result ≡ refusal_in answer }
-{
-    match answer {
-        Answer::Refused(refusal) => refusal.number(),
-        _ => 0,
-    }
-}
-
-fn shown(answer: Answer) -> Said
-    ensures { result ≡ said_of answer }
-{
-    match answer {
-        Answer::Number(n) => Said::Number(n),
-        _ => Said::Nothing,
-    }
 }
 
 impl Line {
@@ -79,22 +33,11 @@ impl Line {
     pub fn of_turn(position: u64, turn: Turn<Command>) -> Line
         ensures { result ≡ line_of position turn }
     {
+        let Turn { call, answer } = turn;
         Line::Call {
             position,
-            kind: kind(turn.call),
-            refusal: refusal(turn.answer),
-            said: shown(turn.answer),
-        }
-    }
-}
-
-impl fmt::Display for Said {
-    ghost output = { λ s. Some (said_text s) };
-
-    fn fmt<W: fmt::Write>(&self, f: &mut fmt::Formatter<W>) -> fmt::Result {
-        match self {
-            Said::Number(n) => write!(f, "{n}"),
-            Said::Nothing => f.write_str("-"),
+            kind: call.into(),
+            answer,
         }
     }
 }
@@ -107,12 +50,20 @@ impl fmt::Display for Line {
             Line::Call {
                 position,
                 kind,
-                refusal,
-                said,
-            } => { write!(f, "{position} {kind} {refusal} {said}") }
-            Line::Complete { position } => write!(f, "{position} 14 0 complete"),
-            Line::Unsure { position } => write!(f, "{position} 14 0 unsure"),
-            Line::Terms { refusal } => write!(f, "terms {refusal}"),
+                answer,
+            } => {
+                write!(f, "{position} {} ", kind.number())?;
+                match answer {
+                    Ok(Reply::Number(n)) => write!(f, "0 {n}"),
+                    Ok(Reply::Ignored | Reply::Done) => f.write_str("0 -"),
+                    Err(refusal) => write!(f, "{} -", refusal.number()),
+                }
+            }
+            Line::Complete { position } => {
+                write!(f, "{position} {} 0 complete", Kind::End.number())
+            }
+            Line::Unsure { position } => write!(f, "{position} {} 0 unsure", Kind::End.number()),
+            Line::Terms { refusal } => write!(f, "terms {}", refusal.number()),
             Line::Bad { place } => write!(f, "bad {place}"),
         }
     }

@@ -60,9 +60,6 @@ module _ (place : ℕ) (e : Ends) where
   pub hear_shut : (r : Refusal) (w : Head) → admitted (near_end e) (frame_at e.back place) ≡ Ok w → hear_bar place e ≡ Some r → e.setting.refused ≡ None → place < length e.back → ⊥
   hear_shut r w t h n a = grind (arith, nat_tests)
 
-  pub lose_open : (l : List Aged) → lose_bar place e l ≡ None → place < length l
-  lose_open l h = let g = (first_none e.setting.refused _ h).1 in grind (arith, nat_tests)
-
   pub lose_shut : (l : List Aged) (r : Refusal) → lose_bar place e l ≡ Some r → e.setting.refused ≡ None → place < length l → ⊥
   lose_shut l r h n a = grind (arith, nat_tests)
 

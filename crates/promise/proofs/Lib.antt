@@ -22,4 +22,3 @@ pub mod Whole
 pub mod Making
 pub mod Example
 pub mod Playing
-pub mod Looping

@@ -5,10 +5,9 @@ use Rattle.path.specs.Events.{Event, Step, JustMade, History, Fresh, made, then}
 use Rattle.promise.specs.Promise.{Promise, Promised}
 use Rattle.path.specs.Rounds as R
 use Rattle.path.specs.Rounds.{Ticks, Delivers, Lands, Closes, again, first, stop, Opens, Rounded, Rounds}
-use Rattle.promise.specs.Turns.{Turned, Turning, Played, OnTheWay, Only, TurnsPromised}
+use Rattle.promise.specs.Turns.{Answer, Turned, Turning, Played, OnTheWay, Only, TurnsPromised}
 use Rattle.promise.specs.Turns as T
 use Rattle.promise.specs.Vocabulary.{AtEveryMoment}
-use Rattle.promise.specs.declared.call.Answer.{Answer}
 use Rattle.promise.specs.declared.call.Call.{Call}
 use Rattle.promise.specs.declared.call.Call.TheVariants.{Offer, Seal, Send, Resend, Arrive, Hear, Deliver, Acknowledge, LoseOutward, LoseBack, Tick, Round}
 use Rattle.promise.specs.declared.call.Turn.{Turn}

@@ -5,8 +5,8 @@ use Rattle.path.specs.Events.{Event, Step, JustMade, History, Fresh}
 use Rattle.promise.specs.Promise.{Promised, AllRefused, BookLong, AllThrough}
 use Rattle.path.specs.Rounds.{Rounded, round_events}
 use Rattle.promise.specs.Vocabulary.{AtEveryMoment}
-use Rattle.promise.specs.declared.call.Answer.{Answer}
-use Rattle.promise.specs.declared.call.Answer.TheVariants.{Number, Ignored, Done, Refused}
+use Rattle.promise.specs.declared.call.Reply.{Reply}
+use Rattle.promise.specs.declared.call.Reply.TheVariants.{Number, Ignored, Done}
 use Rattle.promise.specs.declared.call.Call.{Call}
 use Rattle.promise.specs.declared.call.Call.TheVariants.{Offer, Seal, Send, Resend, Arrive, Hear, Deliver, Acknowledge, LoseOutward, LoseBack, Tick, Round}
 use Rattle.promise.specs.declared.call.Turn.{Turn}
@@ -14,18 +14,22 @@ use Rattle.path.specs.States.{State}
 use Rattle.wire.specs.declared.block.Block.{Ghosts}
 use Rattle.refusal.specs.declared.refusals.Refusal.{Refusal}
 
+-- what a call answers: a reply where it is accepted, else why it is refused
+abbrev pub Answer : Type 0
+Answer = Result Reply Refusal
+
 abbrev pub numbered : Result ℕ Refusal → Answer
-numbered (Ok n) = Number n
-numbered (Err r) = Refused r
+numbered (Ok n) = Ok (Number n)
+numbered (Err r) = Err r
 
 abbrev pub taken : Result (Option ℕ) Refusal → Answer
-taken (Ok (Some n)) = Number n
-taken (Ok None) = Ignored
-taken (Err r) = Refused r
+taken (Ok (Some n)) = Ok (Number n)
+taken (Ok None) = Ok Ignored
+taken (Err r) = Err r
 
 abbrev pub finished : Result (Unit {0}) Refusal → Answer
-finished (Ok u) = Done
-finished (Err r) = Refused r
+finished (Ok u) = Ok Done
+finished (Err r) = Err r
 
 -- the calls of some turns, without their answers
 abbrev pub calls_of : {B : Type 0} → List (Turn B) → List (Call B)

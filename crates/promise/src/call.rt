@@ -20,18 +20,18 @@ pub enum Call<B> {
     Round,
 }
 
+// What a call answers that is accepted.
 #[derive(Clone, Copy)]
-pub enum Answer {
+pub enum Reply {
     Number(u64),
     // a frame that arrived and was not taken
     Ignored,
     Done,
-    Refused(Refusal),
 }
 
 // A call with its answer.
 #[derive(Clone, Copy)]
 pub struct Turn<B> {
     pub call: Call<B>,
-    pub answer: Answer,
+    pub answer: Result<Reply, Refusal>,
 }

@@ -9,7 +9,7 @@ use wire::Block;
 
 mod call;
 
-pub use call::{Answer, Call, Turn};
+pub use call::{Call, Reply, Turn};
 
 // The whole promise, for every block type.
 pub fn promise_holds<B: Block>()

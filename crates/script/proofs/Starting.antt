@@ -1,6 +1,6 @@
 -- A script's path is made over empty shelves, so its making is accepted. Assumes nothing.
-use Rattle.std.proofs.Common.{◌≡◌, ℕ, min, max, List, [], length, replicate, None, Option, ap, ◌∙◌, subst, arith}
-use lib.ListN.{length-replicate}
+use Rattle.std.proofs.Common.{◌≡◌, ℕ, min, max, List, [], length, replicate, None, Option, refl, ap, ◌∙◌, subst, arith}
+use Rattle.std.proofs.lemmas.List.{length-replicate}
 use Rattle.std.proofs.lemmas.Bool.Decides.{nat_tests}
 use Rattle.carrier.specs.Carriers.{Aged}
 use Rattle.carrier.specs.declared.carrier.Carrier.{Ghosts as Carries}
@@ -37,16 +37,9 @@ module _ (t : Terms) (kept : List (Entry Command)) (book : List Command) where
       → out ≡ [] → back ≡ [] → out_life ≡ t.lifetime → back_life ≡ t.lifetime → out_room ≡ 8 → back_room ≡ 8 → got ≡ replicate t.receive_window None
       → making (barred out back out_life back_life out_room back_room got) out back out_life back_life out_room back_room got ≡ started t kept book
   starts out back out_life back_life out_room back_room got a b c d e f g =
-      let empty = replicate t.receive_window None in
-      let size = length-replicate t.receive_window None in
-      let first : making (barred out back out_life back_life out_room back_room got) out back out_life back_life out_room back_room got ≡ making (barred [] [] t.lifetime t.lifetime 8 8 empty) [] [] t.lifetime t.lifetime 8 8 empty =
-      λ i. making (barred (a i) (b i) (c i) (d i) (e i) (f i) (g i)) (a i) (b i) (c i) (d i) (e i) (f i) (g i) in
-      let accepted : barred [] [] t.lifetime t.lifetime 8 8 empty ≡ None = unbarred t (length empty) size in
-      let fresh : making (barred [] [] t.lifetime t.lifetime 8 8 empty) [] [] t.lifetime t.lifetime 8 8 empty ≡ making None [] [] t.lifetime t.lifetime 8 8 empty =
-      ap (λ r. making r [] [] t.lifetime t.lifetime 8 8 empty) accepted in
-      let cleared : making None [] [] t.lifetime t.lifetime 8 8 empty ≡ started t kept book =
-      ap (λ n. state_with (new_ends (record { terms = t; refused = None; out_life = t.lifetime; out_room = 8; back_life = t.lifetime; back_room = 8 }) [] []) kept (replicate n None) book) size in
-      first ∙ fresh ∙ cleared
+      let empty : List (Option (Entry Command)) = replicate t.receive_window None in
+      let size : length empty ≡ t.receive_window = length-replicate t.receive_window None in
+      rw (a, b, c, d, e, f, g) (rw (unbarred t (length empty) size) (rw size refl))
 
 pub ran_from : {O K : Type 0} (o : Carries O) (k : Carries K) (t : Terms) (out : O) (back : K) (kept kept' : List (Entry Command)) (got got' : List (Option (Entry Command))) (book book' : List Command)
     (asked turns : List (Turn Command)) (outcome : Outcome) (ol bl : List Aged)

@@ -1,7 +1,6 @@
 -- What a script's calls are run on, and what they come to.
 use Rattle.std.specs.Prelude.{◌≡◌, ℕ, Bool, true, false, List, [], ◌∷◌, ◌++◌, length, replicate, Some, None, Ok, Err, Option, Result, slice_index}
-use Rattle.history.specs.Runs.{calls_of}
-use Rattle.promise.specs.Turns.{Replayed}
+use Rattle.promise.specs.Turns.{Replayed, calls_of}
 use Rattle.promise.specs.declared.call.Turn.{Turn}
 use Rattle.path.specs.States.{State, state_with, new_ends}
 use Rattle.path.specs.Steps.{outcome_of}
@@ -17,7 +16,6 @@ use Rattle.decode.specs.declared.phase.Phase.TheVariants.{Terms as InTerms, Call
 use Rattle.wire.specs.Commands.{Fits, words_of, command_of}
 use Rattle.wire.specs.declared.block.Block.{Ghosts}
 use Rattle.wire.specs.declared.command.Command.{Command}
-use Rattle.refusal.specs.Refusals.{refusal_number}
 use Rattle.terms.specs.Rules.{TermsRefused}
 use Rattle.refusal.specs.declared.refusals.Refusal.{Refusal}
 use Rattle.terms.specs.declared.agreed.Terms.{Terms}
@@ -79,7 +77,7 @@ pub record CallLines (t : Terms) (asked : List (Turn Command)) (ended : Bool) (l
   pub shown : lines ≡ lines_from 0 turns ++ end_lines ended (length turns) outcome
 
 abbrev pub refused_line : Refusal → Line
-refused_line r = line.Terms (refusal_number r)
+refused_line r = line.Terms r
 
 -- what a script prints: nothing of the calls without terms, only their refusal where they are refused, and else the calls' lines and then a bad word's
 abbrev pub PrintedBy : Option (Result Terms Refusal) → Script → List Line → Type 0

@@ -3,6 +3,6 @@
 
 mod running;
 
-pub use decode::{Decoder, Due, Phase};
-pub use lines::{Line, Said};
+pub use decode::{BadWord, Decoder, Due, Kind, Phase};
+pub use lines::Line;
 pub use running::run;

@@ -1,8 +1,8 @@
 // A script run from its terms to its lines.
-ghost use Rattle.std.specs.Prelude.{◌≡◌, [], ◌∷◌, ◌++◌, replicate, IfOk, OnOk};
+ghost use Rattle.std.specs.Prelude.{◌≡◌, IfOk};
 ghost use Rattle.lines.specs.Lines.{lines_from};
 ghost use Rattle.decode.specs.Decoding.{script_of};
-ghost use Rattle.script.specs.Runs.{Ran, Given, outcome_line, end_lines, bad_lines, refused_line, CallLines, Printed};
+ghost use Rattle.script.specs.Runs.{Ran, Given, outcome_line, CallLines, Printed};
 
 use carrier::{Carrier, Shelf, Slot};
 use decode::{Decoder, Phase};
@@ -13,25 +13,15 @@ use promise::Turn;
 use std::alloc::{AllocError, Global};
 use wire::{Command, Refusal, Terms};
 
-// Adds a line for each call.
-fn push_turns(lines: &mut Vec<Line>, turns: &[Turn<Command>]) -> Result<(), AllocError>
-    ensures { OnOk result (lines.new.items ≡ lines.old.items ++ lines_from 0 turns.now) }
+// A line for each call.
+fn turn_lines(heap: Global, turns: &[Turn<Command>]) -> Result<Vec<Line>, AllocError>
+    ensures { IfOk result (λ v. v.items ≡ lines_from 0 turns.now) }
 {
-    for (position, turn) in turns.iter().enumerate() {
-        lines.push(Line::of_turn(position as u64, *turn))?;
-    }
-    Ok(())
-}
-
-// So many copies of one element.
-fn repeated<T: Copy>(heap: Global, element: T, count: u32) -> Result<Vec<T>, AllocError>
-    ensures { IfOk result (λ v. v.items ≡ replicate count element) }
-{
-    let mut all = Vec::new(heap);
-    for _i in 0..count {
-        all.push(element)?;
-    }
-    Ok(all)
+    turns
+        .iter()
+        .enumerate()
+        .map(|(position, turn)| Line::of_turn(position as u64, *turn))
+        .collect(heap)
 }
 
 // Runs the calls on one path over two shelves, and writes each answer beside its call.
@@ -40,8 +30,8 @@ fn perform(heap: Global, terms: Terms, turns: &mut [Turn<Command>]) -> Result<Ou
 {
     let mut outward = [Slot::EMPTY; 8];
     let mut back = [Slot::EMPTY; 8];
-    let mut kept = repeated(heap, Entry::EndMark, terms.send_window())?;
-    let mut got = repeated(heap, None, terms.receive_window())?;
+    let mut kept = vec![in heap; Entry::EndMark; terms.send_window() as usize]?;
+    let mut got = vec![in heap; None; terms.receive_window() as usize]?;
     let mut book = [Command::Stop; 64];
     let out = Shelf::new(&mut outward, terms.lifetime());
     let home = Shelf::new(&mut back, terms.lifetime());
@@ -53,10 +43,10 @@ fn perform(heap: Global, terms: Terms, turns: &mut [Turn<Command>]) -> Result<Ou
 fn given(terms: &[u32]) -> Option<Result<Terms, Refusal>>
     ensures { Given terms.now result }
 {
-    if terms.len() != 5 {
+    let [send, receive, lifetime, gap, numbers] = *terms else {
         return None;
-    }
-    Some(Terms::new(terms[0], terms[1], terms[2], terms[3], terms[4]))
+    };
+    Some(Terms::new(send, receive, lifetime, gap, numbers))
 }
 
 // The line of the end at a position.
@@ -69,31 +59,6 @@ fn end_line(position: u64, outcome: Outcome) -> Line
     }
 }
 
-// Adds the line of the end, if it was called.
-fn push_end(
-    lines: &mut Vec<Line>,
-    ended: bool,
-    position: u64,
-    outcome: Outcome,
-) -> Result<(), AllocError>
-    ensures { OnOk result (lines.new.items ≡ lines.old.items ++ end_lines ended position outcome) }
-{
-    if ended {
-        lines.push(end_line(position, outcome))?;
-    }
-    Ok(())
-}
-
-// Adds the line of a bad word, if there is one.
-fn push_bad(lines: &mut Vec<Line>, phase: Phase) -> Result<(), AllocError>
-    ensures { OnOk result (lines.new.items ≡ lines.old.items ++ bad_lines phase) }
-{
-    if let Phase::Bad(place) = phase {
-        lines.push(Line::Bad { place })?;
-    }
-    Ok(())
-}
-
 // Runs the calls under the terms, with their lines and then that of the end.
 fn call_lines(
     heap: Global,
@@ -104,20 +69,10 @@ fn call_lines(
     ensures { IfOk result (λ v. CallLines terms turns.old ended v.items) }
 {
     let outcome = perform(heap, terms, turns)?;
-    let mut lines = Vec::new(heap);
-    push_turns(&mut lines, turns)?;
-    push_end(&mut lines, ended, turns.len() as u64, outcome)?;
-    Ok(lines)
-}
-
-// The one line of refused terms.
-fn refused_lines(heap: Global, refusal: Refusal) -> Result<Vec<Line>, AllocError>
-    ensures { IfOk result (λ v. v.items ≡ refused_line refusal ∷ []) }
-{
-    let mut lines = Vec::new(heap);
-    lines.push(Line::Terms {
-        refusal: refusal.number(),
-    })?;
+    let mut lines = turn_lines(heap, turns)?;
+    if ended {
+        lines.push(end_line(turns.len() as u64, outcome))?;
+    }
     Ok(lines)
 }
 
@@ -126,20 +81,19 @@ pub fn run(heap: Global, script: Decoder) -> Result<Vec<Line>, AllocError>
     ensures { IfOk result (λ v. Printed (script_of script) v.items) }
 {
     let Decoder {
-        place: _,
         phase,
         terms,
         mut turns,
         ended,
+        ..
     } = script;
-    let mut lines = Vec::new(heap);
-    if let Some(given) = given(&terms) {
-        let terms = match given {
-            Ok(terms) => terms,
-            Err(refusal) => return refused_lines(heap, refusal),
-        };
-        lines = call_lines(heap, terms, &mut turns, ended)?;
+    let mut lines = match given(&terms) {
+        Some(Ok(terms)) => call_lines(heap, terms, &mut turns, ended)?,
+        Some(Err(refusal)) => return Ok(vec![in heap; Line::Terms { refusal }]?),
+        None => Vec::new(heap),
+    };
+    if let Phase::Bad(place) = phase {
+        lines.push(Line::Bad { place })?;
     }
-    push_bad(&mut lines, phase)?;
     Ok(lines)
 }

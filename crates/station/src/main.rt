@@ -1,58 +1,58 @@
 // A control room sends three orders to a pumping station over a bad line: a frame is lost, one comes late, one comes twice.
 #![tactic(auto)]
 
-mod step;
 mod text;
 
-use crate::step::{Step, play};
 use crate::text::{Ending, Line, Order};
 use carrier::{Carrier, Shelf, Slot};
+use history::make_call;
 use path::{Entry, Path, WindowStore};
+use promise::{Call, Turn};
 use std::io;
 use wire::{Command, Terms};
 
-const SCRIPT: [Step; 35] = [
-    Step::Offer(Command::Stop),
-    Step::Send,
-    Step::LoseOutward(0),
-    Step::Offer(Command::Start { channel: 4 }),
-    Step::Send,
-    Step::Tick,
-    Step::Tick,
-    Step::Send,
-    Step::Arrive(0),
-    Step::Deliver,
-    Step::Resend(0),
-    Step::Arrive(1),
-    Step::Arrive(0),
-    Step::Deliver,
-    Step::Deliver,
-    Step::Acknowledge,
-    Step::LoseBack(0),
-    Step::Tick,
-    Step::Resend(1),
-    Step::Arrive(2),
-    Step::Acknowledge,
-    Step::Hear(0),
-    Step::Offer(Command::Set {
+const SCRIPT: [Call<Command>; 35] = [
+    Call::Offer(Command::Stop),
+    Call::Send,
+    Call::LoseOutward(0),
+    Call::Offer(Command::Start { channel: 4 }),
+    Call::Send,
+    Call::Tick,
+    Call::Tick,
+    Call::Send,
+    Call::Arrive(0),
+    Call::Deliver,
+    Call::Resend(0),
+    Call::Arrive(1),
+    Call::Arrive(0),
+    Call::Deliver,
+    Call::Deliver,
+    Call::Acknowledge,
+    Call::LoseBack(0),
+    Call::Tick,
+    Call::Resend(1),
+    Call::Arrive(2),
+    Call::Acknowledge,
+    Call::Hear(0),
+    Call::Offer(Command::Set {
         channel: 4,
         level: 75,
     }),
-    Step::Seal,
-    Step::Tick,
-    Step::Send,
-    Step::Tick,
-    Step::Tick,
-    Step::Arrive(0),
-    Step::Send,
-    Step::Arrive(1),
-    Step::Deliver,
-    Step::Deliver,
-    Step::Acknowledge,
-    Step::Hear(0),
+    Call::Seal,
+    Call::Tick,
+    Call::Send,
+    Call::Tick,
+    Call::Tick,
+    Call::Arrive(0),
+    Call::Send,
+    Call::Arrive(1),
+    Call::Deliver,
+    Call::Deliver,
+    Call::Acknowledge,
+    Call::Hear(0),
 ];
 
-// Plays the script over two shelves, and says of each step what came of it.
+// Plays the script over two shelves, and says of each call what came of it.
 fn run(rt: &HostRuntime, terms: Terms, book: &mut [Command]) -> io::Result<()> {
     let mut out_slots = [Slot::EMPTY; 8];
     let mut back_slots = [Slot::EMPTY; 8];
@@ -63,20 +63,17 @@ fn run(rt: &HostRuntime, terms: Terms, book: &mut [Command]) -> io::Result<()> {
     let out = Shelf::new(&mut out_slots, terms.lifetime());
     let back = Shelf::new(&mut back_slots, terms.lifetime());
     let mut path = Path::new(terms, out, back, &mut got);
-    for step in SCRIPT {
-        let answer = play(&mut path, &mut kept, &mut got, book, step);
-        let line = Line { step, answer };
-        println!(rt; "{line}")?;
+    for call in SCRIPT {
+        let answer = make_call(&mut path, &mut kept, &mut got, book, call);
+        println!(rt; "{}", Line(Turn { call, answer }))?;
     }
     let (outcome, _, _) = path.end();
-    let ending = Ending(outcome);
-    println!(rt; "the end: {ending}")
+    println!(rt; "the end: {}", Ending(outcome))
 }
 
 fn read_out(rt: &HostRuntime, book: &[Command]) -> io::Result<()> {
     for command in book {
-        let order = Order(*command);
-        println!(rt; "in the book: {order}")?;
+        println!(rt; "in the book: {}", Order(*command))?;
     }
     Ok(())
 }
@@ -88,9 +85,6 @@ fn main(rt: HostRuntime) -> io::Result<()> {
             run(&rt, terms, &mut book)?;
             read_out(&rt, &book)
         }
-        Err(refusal) => {
-            let number = refusal.number();
-            println!(rt; "terms refused: {number}")
-        }
+        Err(refusal) => println!(rt; "terms refused: {}", refusal.number()),
     }
 }

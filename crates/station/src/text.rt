@@ -1,6 +1,6 @@
-// Steps, answers and commands in plain words.
-use crate::step::{Answer, Step};
+// Calls, answers and commands in plain words.
 use path::Outcome;
+use promise::{Call, Reply, Turn};
 use std::fmt;
 use wire::{Command, Refusal};
 
@@ -18,23 +18,25 @@ impl fmt::Display for Order {
     }
 }
 
-impl fmt::Display for Step {
+// A call as it is told.
+#[derive(Clone, Copy)]
+struct Told(Call<Command>);
+
+impl fmt::Display for Told {
     fn fmt<W: fmt::Write>(&self, f: &mut fmt::Formatter<W>) -> fmt::Result {
-        match *self {
-            Step::Offer(command) => {
-                let order = Order(command);
-                write!(f, "the control room offers \"{order}\"")
-            }
-            Step::Seal => write!(f, "the control room seals"),
-            Step::Send => write!(f, "it sends the next entry"),
-            Step::Resend(j) => write!(f, "it sends again what it waits for, from place {j}"),
-            Step::Arrive(place) => write!(f, "the frame at place {place} arrives at the station"),
-            Step::Deliver => write!(f, "the station delivers into its book"),
-            Step::Acknowledge => write!(f, "the station acknowledges"),
-            Step::Hear(place) => write!(f, "the control room hears place {place}"),
-            Step::LoseOutward(place) => write!(f, "the frame at place {place} is lost"),
-            Step::LoseBack(place) => write!(f, "the acknowledgement at place {place} is lost"),
-            Step::Tick => write!(f, "a tick passes"),
+        match self.0 {
+            Call::Offer(command) => { write!(f, "the control room offers \"{}\"", Order(command)) }
+            Call::Seal => write!(f, "the control room seals"),
+            Call::Send => write!(f, "it sends the next entry"),
+            Call::Resend(j) => write!(f, "it sends again what it waits for, from place {j}"),
+            Call::Arrive(place) => write!(f, "the frame at place {place} arrives at the station"),
+            Call::Deliver => write!(f, "the station delivers into its book"),
+            Call::Acknowledge => write!(f, "the station acknowledges"),
+            Call::Hear(place) => write!(f, "the control room hears place {place}"),
+            Call::LoseOutward(place) => write!(f, "the frame at place {place} is lost"),
+            Call::LoseBack(place) => write!(f, "the acknowledgement at place {place} is lost"),
+            Call::Tick => write!(f, "a tick passes"),
+            Call::Round => write!(f, "a round is made"),
         }
     }
 }
@@ -66,39 +68,38 @@ fn reason(refusal: Refusal) -> &'static str {
 }
 
 // What the number means that a step answers.
-fn meaning(step: Step) -> &'static str {
-    match step {
-        Step::Offer(_) | Step::Seal => "accepted as entry",
-        Step::Send | Step::Resend(_) => "out goes entry",
-        Step::Arrive(_) => "stored as entry",
-        Step::Deliver => "delivered, entry",
-        Step::Acknowledge => "it has every entry below",
-        Step::Hear(_) => "entries newly heard of,",
+fn meaning(call: Call<Command>) -> &'static str {
+    match call {
+        Call::Offer(_) | Call::Seal => "accepted as entry",
+        Call::Send | Call::Resend(_) => "out goes entry",
+        Call::Arrive(_) => "stored as entry",
+        Call::Deliver => "delivered, entry",
+        Call::Acknowledge => "it has every entry below",
+        Call::Hear(_) => "entries newly heard of,",
+        Call::Round => "entries delivered,",
         _ => "number",
     }
 }
 
-// A step with what came of it.
+// A call with what came of it.
 #[derive(Clone, Copy)]
-pub struct Line {
-    pub step: Step,
-    pub answer: Answer,
-}
+pub struct Line(pub Turn<Command>);
 
 impl fmt::Display for Line {
     fn fmt<W: fmt::Write>(&self, f: &mut fmt::Formatter<W>) -> fmt::Result {
-        let step = self.step;
-        match self.answer {
-            Answer::Number(number) => {
-                let what = meaning(step);
-                write!(f, "{step}: {what} {number}")
-            }
-            Answer::Ignored => write!(f, "{step}: ignored"),
-            Answer::Done => write!(f, "{step}"),
-            Answer::Refused(refusal) => {
-                let number = refusal.number();
-                let why = reason(refusal);
-                write!(f, "{step}: refused, {why} ({number})")
+        let Turn { call, answer } = self.0;
+        let told = Told(call);
+        match answer {
+            Ok(Reply::Number(number)) => write!(f, "{told}: {} {number}", meaning(call)),
+            Ok(Reply::Ignored) => write!(f, "{told}: ignored"),
+            Ok(Reply::Done) => write!(f, "{told}"),
+            Err(refusal) => {
+                write!(
+                    f,
+                    "{told}: refused, {} ({})",
+                    reason(refusal),
+                    refusal.number()
+                )
             }
         }
     }

@@ -4,24 +4,24 @@ use Rattle.promise.specs.declared.call.Turn.{Turn}
 use Rattle.history.proofs.Plays.{plays_none, plays_turn, plays_all, calls_of_set}
 use Rattle.history.proofs.playing.play.Goals as goal
 
-pub loop-i-init : goal.loop-i-init
-loop-i-init g c = (plays_none _, refl, refl, refl)
+pub loop-turn-init : goal.loop-turn-init
+loop-turn-init g c = (plays_none _, refl, refl, refl)
 
-pub loop-i-preserved : goal.loop-i-preserved
-loop-i-preserved g c =
-    let told = c.make_call-answer.ensures in
-    let inv = c.loop-i.invariant in (
-      plays_turn _ c.loop-i.turns c.loop-i.i _ (omega arith) inv.0 told.makes,
-      calls_of_set c.loop-i.turns c.loop-i.i _ (ap (λ (t : Turn _). t.call) (get_or_default c.loop-i.turns c.loop-i.i _ _ (omega arith))) ∙ inv.1,
+pub loop-turn-preserved : goal.loop-turn-preserved
+loop-turn-preserved g c =
+    let told = c.make_call-turn.ensures in
+    let inv = c.loop-turn.invariant in (
+      plays_turn _ c.loop-turn.turns c.loop-turn.turn-index _ (omega arith) inv.0 told.makes,
+      calls_of_set c.loop-turn.turns c.loop-turn.turn-index _ (ap (λ (t : Turn _). t.call) (get_or_default c.loop-turn.turns c.loop-turn.turn-index _ _ (omega arith))) ∙ inv.1,
       told.kept_lender ∙ inv.2,
       told.got_lender ∙ inv.3,
     )
 
 pub returns : goal.returns
 returns g c =
-    let inv = c.loop-i.invariant in
+    let inv = c.loop-turn.invariant in
     record {
-      played = plays_all _ c.loop-i.turns c.loop-i.i (omega arith) inv.0;
+      played = plays_all _ c.loop-turn.turns c.loop-turn.turn-index (omega arith) inv.0;
       same = inv.1;
       kept_lender = inv.2;
       got_lender = inv.3;
