@@ -1,5 +1,5 @@
 // A line of text as a frame: three words of eight hexadecimal digits, with blanks between.
-ghost use Rattle.std.specs.Prelude.{◌≡◌, ◌<◌, ◌≤◌, length, drop, IfSome, Some, None, MatchOption, ◌==◌};
+ghost use Rattle.std.specs.Prelude.{◌≡◌, ◌<◌, length, IfSome, Some, None, MatchOption, true, false};
 ghost use Rattle.explain.specs.Lines.{blank, digit_of, skipped, digits_on, word_in, gapped, after_word, frame_on};
 
 use wire::{Frame, Words};
@@ -7,38 +7,31 @@ use wire::{Frame, Words};
 fn is_blank(byte: u8) -> bool
     ensures { result ≡ blank byte }
 {
-    byte == b' ' || byte == b'\t' || byte == b'\r'
+    matches!(byte, b' ' | b'\t' | b'\r')
 }
 
 fn digit(byte: u8) -> Option<u32>
     ensures value { result ≡ digit_of byte }
     ensures small { IfSome result (λ d. d < 16) }
 {
-    match byte {
-        b'0'..=b'9' => Some(u32::from(byte - b'0')),
-        b'A'..=b'F' => Some(u32::from(byte - b'A') + 10),
-        b'a'..=b'f' => Some(u32::from(byte - b'a') + 10),
-        _ => None,
-    }
+    char::from(byte).to_digit(16)
 }
 
-// Where the blanks that begin at a place end.
-fn skip_blanks(line: &[u8], from: usize) -> usize
-    requires { from ≤ length line.now }
-    ensures rest { drop result line.now ≡ skipped (drop from line.now) }
-    ensures within { result ≤ length line.now }
+// What is left after the blanks in front.
+fn skip_blanks(line: &[u8]) -> &[u8]
+    ensures { result.now ≡ skipped line.now }
 {
-    for at in from..line.len() {
-        if !is_blank(line[at]) {
-            return at;
-        }
+    let mut rest = line;
+    while let [first, after @ ..] = rest
+        && is_blank(*first)
+    {
+        rest = after;
     }
-    line.len()
+    rest
 }
 
-// Eight digits as a word.
-fn word(digits: &[u8]) -> Option<u32>
-    requires { length digits.now ≡ 8 }
+// Eight digits as a word; a loop, since that no step overflows is an invariant of it.
+fn word(digits: &[u8; 8]) -> Option<u32>
     ensures { result ≡ digits_on digits.now 0 }
 {
     let mut word: u32 = 0;
@@ -48,52 +41,32 @@ fn word(digits: &[u8]) -> Option<u32>
     Some(word)
 }
 
-// The word after the blanks that begin at a place, and where it ends.
-fn word_from(line: &[u8], from: usize) -> Option<(u32, usize)>
-    requires { from ≤ length line.now }
-    ensures { MatchOption result (word_in (skipped (drop from line.now)) ≡ None) (λ p. (word_in (skipped (drop from line.now)) ≡ Some p.0) × (drop p.1 line.now ≡ after_word (drop from line.now)) × (p.1 ≤ length line.now)) }
+// The word after the blanks in front, and what is left after it.
+fn word_in_front(line: &[u8]) -> Option<(u32, &[u8])>
+    ensures { MatchOption result (word_in (skipped line.now) ≡ None) (λ p. (word_in (skipped line.now) ≡ Some p.0) × (p.1.now ≡ after_word line.now)) }
 {
-    let start = skip_blanks(line, from);
-    if line.len() - start < 8 {
-        return None;
+    let (digits, rest) = skip_blanks(line).split_first_chunk::<8>()?;
+    Some((word(digits)?, rest))
+}
+
+// What is left after one blank in front.
+fn after_blank(line: &[u8]) -> Option<&[u8]>
+    ensures { MatchOption result (gapped line.now ≡ false) (λ rest. (gapped line.now ≡ true) × (skipped rest.now ≡ skipped line.now)) }
+{
+    match line {
+        [first, rest @ ..] if is_blank(*first) => Some(rest),
+        _ => None,
     }
-    let end = start + 8;
-    let value = word(&line[start..end])?;
-    Some((value, end))
-}
-
-// Whether a blank stands at a place.
-fn gap_at(line: &[u8], at: usize) -> bool
-    requires { at ≤ length line.now }
-    ensures { result ≡ gapped (drop at line.now) }
-{
-    at < line.len() && is_blank(line[at])
-}
-
-// Whether nothing but blanks stands from a place on.
-fn only_blanks(line: &[u8], from: usize) -> bool
-    requires { from ≤ length line.now }
-    ensures { result ≡ (length (skipped (drop from line.now)) == 0) }
-{
-    skip_blanks(line, from) == line.len()
 }
 
 // The frame that a line of text is, if it is one.
 pub fn frame_in(line: &[u8]) -> Option<Frame>
     ensures { result ≡ frame_on line.now }
 {
-    let (head, at) = word_from(line, 0)?;
-    if !gap_at(line, at) {
-        return None;
-    }
-    let (first, at) = word_from(line, at)?;
-    if !gap_at(line, at) {
-        return None;
-    }
-    let (second, at) = word_from(line, at)?;
-    if !only_blanks(line, at) {
-        return None;
-    }
+    let (head, rest) = word_in_front(line)?;
+    let (first, rest) = word_in_front(after_blank(rest)?)?;
+    let (second, rest) = word_in_front(after_blank(rest)?)?;
     let words = Words { first, second };
-    Some(Frame { head, words })
+    let frame = Frame { head, words };
+    skip_blanks(rest).is_empty().then_some(frame)
 }

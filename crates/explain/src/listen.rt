@@ -38,20 +38,18 @@ impl Spoken for Reading {
     }
 }
 
-fn meaning<B: Spoken>(read: Result<Content<B>, Fault>) -> Meaning
-    ensures { result ≡ meant B.said read }
-{
-    let content = match read {
-        Ok(content) => content,
-        Err(fault) => return Meaning::Malformed(fault),
-    };
-    match content {
-        Content::Data { number, block } => block.say(number),
-        Content::Acknowledgement { number, window } => Meaning::Acknowledgement {
-            number,
-            window: window.size(),
-        },
-        Content::EndMark { number } => Meaning::EndMark { number },
+impl<B: Spoken> From<Content<B>> for Meaning {
+    ghost from_gives = { λ content meaning. meaning ≡ meant B.said content };
+
+    fn from(content: Content<B>) -> Self {
+        match content {
+            Content::Data { number, block } => block.say(number),
+            Content::Acknowledgement { number, window } => Meaning::Acknowledgement {
+                number,
+                window: window.size(),
+            },
+            Content::EndMark { number } => Meaning::EndMark { number },
+        }
     }
 }
 
@@ -66,12 +64,12 @@ fn read_by<B: Block>(end: Option<End>, frame: Frame) -> Result<Content<B>, Fault
 }
 
 impl Listener {
-    pub fn hear(self, frame: Frame) -> Meaning
+    pub fn hear(self, frame: Frame) -> Result<Meaning, Fault>
         ensures { result ≡ meaning_of self frame }
     {
         match self.blocks {
-            Blocks::Commands => meaning::<Command>(read_by(self.end, frame)),
-            Blocks::Readings => meaning::<Reading>(read_by(self.end, frame)),
+            Blocks::Commands => read_by::<Command>(self.end, frame).map(Meaning::from),
+            Blocks::Readings => read_by::<Reading>(self.end, frame).map(Meaning::from),
         }
     }
 }

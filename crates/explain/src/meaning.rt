@@ -1,5 +1,5 @@
-// What a captured frame says, or what is wrong with it.
-use wire::{Command, End, Fault, Reading};
+// What a captured frame says, and to whom.
+use wire::{Command, End, Reading};
 
 #[derive(Clone, Copy)]
 pub enum Meaning {
@@ -7,7 +7,6 @@ pub enum Meaning {
     Reading { number: u16, reading: Reading },
     Acknowledgement { number: u16, window: u16 },
     EndMark { number: u16 },
-    Malformed(Fault),
 }
 
 // What data frames hold.

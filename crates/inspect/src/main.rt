@@ -9,11 +9,13 @@ use wire::{End, Side};
 
 const USAGE: &str = "usage: inspect [command|reading] [sender N|receiver N]";
 
+fn usage() -> anyhow::Error {
+    anyhow!("{USAGE:?}")
+}
+
 fn end_at(side: Side, numbers: &str) -> anyhow::Result<End> {
-    match numbers.parse::<u32>() {
-        Ok(numbers) => Ok(End { side, numbers }),
-        Err(_) => Err(anyhow!("{USAGE:?}")),
-    }
+    let numbers = numbers.parse::<u32>().map_err(|_| usage())?;
+    Ok(End { side, numbers })
 }
 
 // What the arguments ask for: which blocks data frames hold, and at which end the frames came in.
@@ -23,7 +25,7 @@ fn listener(rt: &HostRuntime) -> anyhow::Result<Listener> {
     let mut end = None;
     for word in env::args(rt)?.skip(1) {
         if end.is_some() {
-            return Err(anyhow!("{USAGE:?}"));
+            return Err(usage());
         }
         match (word.as_str(), side) {
             (numbers, Some(side)) => end = Some(end_at(side, numbers)?),
@@ -31,13 +33,13 @@ fn listener(rt: &HostRuntime) -> anyhow::Result<Listener> {
             ("reading", None) => blocks = Blocks::Readings,
             ("sender", None) => side = Some(Side::Sender),
             ("receiver", None) => side = Some(Side::Receiver),
-            _ => return Err(anyhow!("{USAGE:?}")),
+            _ => return Err(usage()),
         }
     }
-    if side.is_some() && end.is_none() {
-        return Err(anyhow!("{USAGE:?}"));
+    match (side, end) {
+        (Some(_), None) => Err(usage()),
+        _ => Ok(Listener { blocks, end }),
     }
-    Ok(Listener { blocks, end })
 }
 
 fn run(rt: &HostRuntime) -> anyhow::Result<()> {
@@ -45,9 +47,10 @@ fn run(rt: &HostRuntime) -> anyhow::Result<()> {
     let mut place: u64 = 0;
     for line in BufReader::new(rt.alloc(), rt.stdin())?.split(rt.alloc(), b'\n') {
         place = place.saturating_add(1);
-        let line = line?;
-        let explained = explain(listener, place, &line);
-        println!(rt; "{explained}")?;
+        match explain(listener, place, &line?) {
+            Ok(meaning) => println!(rt; "{meaning}")?,
+            Err(unread) => println!(rt; "{unread}")?,
+        }
     }
     Ok(())
 }

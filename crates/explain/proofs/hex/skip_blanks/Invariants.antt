@@ -1,6 +1,9 @@
-use Rattle.std.proofs.Common.{◌≡◌, drop}
+use Rattle.std.proofs.Common.{◌≡◌, length}
 use Rattle.explain.specs.Lines.{skipped}
 use Rattle.explain.proofs.hex.skip_blanks.Given as goal
 
-abbrev pub invariant-loop-at : goal.invariant-loop-at
-invariant-loop-at l = skipped (drop l.at l.line) ≡ skipped (drop l.from l.line)
+abbrev pub invariant-loop-rest : goal.invariant-loop-rest
+invariant-loop-rest l = skipped l.rest ≡ skipped l.line
+
+abbrev pub decreases-loop-rest : goal.decreases-loop-rest
+decreases-loop-rest l = length l.rest
