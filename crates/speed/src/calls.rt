@@ -7,36 +7,69 @@ use wire::{Reading, Terms};
 
 pub const PATHS: u32 = 25;
 
+// The last kind of call that is made.
+#[derive(Clone, Copy, PartialEq, PartialOrd)]
+pub enum Upto {
+    Nothing,
+    Offer,
+    Tick,
+    Send,
+    Arrive,
+    Deliver,
+    Acknowledge,
+    Hear,
+    Resend,
+}
+
+impl TryFrom<u16> for Upto {
+    type Error = ();
+
+    fn try_from(step: u16) -> Result<Upto, ()> {
+        match step {
+            0 => Ok(Upto::Nothing),
+            1 => Ok(Upto::Offer),
+            2 => Ok(Upto::Tick),
+            3 => Ok(Upto::Send),
+            4 => Ok(Upto::Arrive),
+            5 => Ok(Upto::Deliver),
+            6 => Ok(Upto::Acknowledge),
+            7 => Ok(Upto::Hear),
+            8 => Ok(Upto::Resend),
+            _ => Err(()),
+        }
+    }
+}
+
 // As many blocks as both windows hold, so that no call needs another one after it.
 pub const WINDOW: u32 = 4096;
 
-// The sender's part of block i and its arrival.
+// The sender's part of block i and its arrival. No table of closures: what calls one would be counted too.
 fn forth<O: Carrier, K: Carrier>(
     path: &mut Path<O, K>,
     kept: &mut WindowStore<Entry<Reading>>,
     got: &mut WindowStore<Option<Entry<Reading>>>,
-    steps: u32,
+    upto: Upto,
     i: u32,
     sum: &mut Sum,
 ) {
-    if steps >= 1 {
-        sum.number(path.offer(kept, block(i)));
+    if upto >= Upto::Offer {
+        sum.answer(path.offer(kept, block(i)).map(Some));
     }
-    if steps >= 2 {
-        sum.done(path.tick());
+    if upto >= Upto::Tick {
+        sum.answer(path.tick().map(|()| None));
     }
-    if steps >= 3 {
-        sum.number(path.send(kept));
+    if upto >= Upto::Send {
+        sum.answer(path.send(kept).map(Some));
     }
-    if steps >= 4 {
+    if upto >= Upto::Arrive {
         sum.answer(path.arrive(0, got));
     }
-    if steps >= 3 {
-        sum.done(path.lose_outward(0));
+    if upto >= Upto::Send {
+        sum.answer(path.lose_outward(0).map(|()| None));
     }
-    if steps >= 8 {
-        sum.number(path.resend(kept, 0));
-        sum.done(path.lose_outward(0));
+    if upto >= Upto::Resend {
+        sum.answer(path.resend(kept, 0).map(Some));
+        sum.answer(path.lose_outward(0).map(|()| None));
     }
 }
 
@@ -45,38 +78,38 @@ fn back<O: Carrier, K: Carrier>(
     path: &mut Path<O, K>,
     got: &mut WindowStore<Option<Entry<Reading>>>,
     book: &mut [Reading],
-    steps: u32,
+    upto: Upto,
     sum: &mut Sum,
 ) {
-    if steps >= 5 {
-        sum.number(path.deliver(got, book));
+    if upto >= Upto::Deliver {
+        sum.answer(path.deliver(got, book).map(Some));
     }
-    if steps >= 6 {
-        sum.number(path.acknowledge());
+    if upto >= Upto::Acknowledge {
+        sum.answer(path.acknowledge().map(Some));
     }
-    if steps >= 7 {
-        sum.number(path.hear(0));
+    if upto >= Upto::Hear {
+        sum.answer(path.hear(0).map(Some));
     }
-    if steps >= 6 {
-        sum.done(path.lose_back(0));
+    if upto >= Upto::Acknowledge {
+        sum.answer(path.lose_back(0).map(|()| None));
     }
 }
 
-// One path over two carriers: the first `steps` calls for every block.
+// One path over two carriers: the calls up to one kind for every block.
 pub fn one_path<O: Carrier + Drop, K: Carrier + Drop>(
     terms: Terms,
     ways: (O, K),
     kept: &mut WindowStore<Entry<Reading>>,
     got: &mut WindowStore<Option<Entry<Reading>>>,
     book: &mut [Reading],
-    steps: u32,
+    upto: Upto,
     sum: &mut Sum,
 ) {
     let (out, way_back) = ways;
     let mut path = Path::new(terms, out, way_back, got);
     for i in 0..WINDOW {
-        forth(&mut path, kept, got, steps, i, sum);
-        back(&mut path, got, book, steps, sum);
+        forth(&mut path, kept, got, upto, i, sum);
+        back(&mut path, got, book, upto, sum);
     }
     let (outcome, _, _) = path.end();
     sum.outcome(outcome);

@@ -14,11 +14,11 @@ fn send<O: Carrier, K: Carrier>(
     i: u32,
     sum: &mut Sum,
 ) {
-    sum.number(path.offer(kept, block(i)));
-    sum.number(path.send(kept));
+    sum.answer(path.offer(kept, block(i)).map(Some));
+    sum.answer(path.send(kept).map(Some));
     if i % 8 == 5 {
-        sum.done(path.lose_outward(0));
-        sum.number(path.resend(kept, 0));
+        sum.answer(path.lose_outward(0).map(|()| None));
+        sum.answer(path.resend(kept, 0).map(Some));
     }
 }
 
@@ -32,25 +32,25 @@ fn receive<O: Carrier, K: Carrier>(
     for place in 0..3 {
         sum.answer(path.arrive(place, got));
     }
-    sum.number(path.deliver(got, book));
-    sum.number(path.acknowledge());
+    sum.answer(path.deliver(got, book).map(Some));
+    sum.answer(path.acknowledge().map(Some));
 }
 
 // Every acknowledgement in the air is heard, late ones too.
 fn hear<O: Carrier, K: Carrier>(path: &mut Path<O, K>, sum: &mut Sum) {
     for place in 0..3 {
-        sum.number(path.hear(place));
+        sum.answer(path.hear(place).map(Some));
     }
 }
 
 // Moves every block, seals and ends.
 pub fn move_all<O: Carrier + Drop, K: Carrier + Drop>(
     terms: Terms,
-    out: O,
-    back: K,
+    ways: (O, K),
     book: &mut [Reading],
     sum: &mut Sum,
 ) {
+    let (out, back) = ways;
     let mut kept_places = [Entry::EndMark; 8];
     let mut got_places = [None; 8];
     let mut kept = WindowStore::new(&mut kept_places);
@@ -60,13 +60,13 @@ pub fn move_all<O: Carrier + Drop, K: Carrier + Drop>(
         send(&mut path, &mut kept, i, sum);
         receive(&mut path, &mut got, book, sum);
         if i % 8 == 2 {
-            sum.done(path.lose_back(0));
+            sum.answer(path.lose_back(0).map(|()| None));
         }
         hear(&mut path, sum);
-        sum.done(path.tick());
+        sum.answer(path.tick().map(|()| None));
     }
-    sum.number(path.seal(&mut kept));
-    sum.number(path.send(&kept));
+    sum.answer(path.seal(&mut kept).map(Some));
+    sum.answer(path.send(&kept).map(Some));
     receive(&mut path, &mut got, book, sum);
     hear(&mut path, sum);
     let (outcome, _, _) = path.end();

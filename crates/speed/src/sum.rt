@@ -29,22 +29,6 @@ impl Sum {
         }
     }
 
-    // The same for a call that always answers a number.
-    pub fn number(&mut self, answer: Result<u64, Refusal>) {
-        match answer {
-            Ok(number) => self.answer(Ok(Some(number))),
-            Err(refusal) => self.answer(Err(refusal)),
-        }
-    }
-
-    // The same for a call that answers nothing.
-    pub fn done(&mut self, answer: Result<(), Refusal>) {
-        match answer {
-            Ok(()) => self.answer(Ok(None)),
-            Err(refusal) => self.answer(Err(refusal)),
-        }
-    }
-
     // Takes in how a path ended.
     pub fn outcome(&mut self, outcome: Outcome) {
         match outcome {
