@@ -8,5 +8,5 @@ mod shelf;
 
 pub use carrier::Carrier;
 pub use lifetime::Lifetime;
-pub use records::Records;
+pub use records::{Records, Stays};
 pub use shelf::{Shelf, Slot};

@@ -2,7 +2,7 @@
 ghost use Rattle.std.specs.Prelude.{◌≡◌, ◌-◌, min, max};
 ghost use Rattle.carrier.specs.Lifetimes.{ticks_of};
 
-// One outside 1 to 65,535 is taken as the nearer end. A ghost field that says so would keep a struct that holds it beside a lent slice from being passed for a type parameter.
+// One outside 1 to 65,535 is taken as the nearer end. With a ghost field that says so, a shelf could not stand for a type parameter.
 #[derive(Clone, Copy)]
 pub struct Lifetime {
     given: u32,

@@ -1,18 +1,26 @@
 // A list of records in a lent slice, with room for more.
-ghost use Rattle.std.specs.Prelude.{◌≡◌, ◌==◌, ◌<◌, ◌≤◌, min, Bool, [], ◌++◌, map, length, take, drop, filter, slice_get};
+ghost use Rattle.std.specs.Prelude.{◌≡◌, ◌==◌, ◌≤◌, min, Bool, [], ◌++◌, map, length, take, drop, filter, slice_get};
 ghost use Rattle.std.specs.Option.{ok_or};
 ghost use Rattle.carrier.specs.Records.{records_list, records_room, Pushed, Removed};
 
 use wire::Refusal;
 
-// It means something at every value: no more records than fit, and 4,096 at most.
+// What says of a record whether it stays. A trait and no closure: `retain` is public, and would have to require that its closure may be called.
+pub trait Stays<T> {
+    ghost kept: { Self → T → Bool };
+
+    fn stays(&self, item: &T) -> bool
+        ensures { result ≡ kept self.now item.now };
+}
+
+// It means something at every value: no more records than fit, and 4,096 at most. Memory is lent and fixed, so a count stands beside it; a struct that borrows mutably has no model.
 #[derive(Drop)]
 pub struct Records<'a, T> {
     lent: &'a mut [T],
     used: usize,
 }
 
-// The two loops take the slice and how much of it is in use: lent out of a field, a part of it would end as no proof knows.
+// The two loops take the slice and how much of it is in use. Tried with the part alone: lent out of a field, it ends as no proof knows.
 
 // Puts what `f` makes of it in the place of each of the first `used` items.
 fn replace_each<T: Copy, F: Fn(T) -> T>(lent: &mut [T], used: usize, f: F)
@@ -26,15 +34,14 @@ fn replace_each<T: Copy, F: Fn(T) -> T>(lent: &mut [T], used: usize, f: F)
 }
 
 // Closes the gaps of those among the first `used` items that do not stay, and answers how many are left. It goes by index, since it writes behind where it reads.
-fn close_gaps<T: Copy, F: Fn(&T) -> bool>(lent: &mut [T], used: usize, stays: F) -> usize
-    requires callable { F.IsAlwaysCallable stays }
-    requires within { used ≤ length lent.old }
+fn close_gaps<T: Copy, S: Stays<T>>(lent: &mut [T], used: usize, by: &S) -> usize
+    requires { used ≤ length lent.old }
     ensures upto { result ≤ used }
-    ensures list { (p : T → Bool) → ((x : _) (b : Bool) → F.post stays x b → b ≡ p x.now) → take result lent.new ≡ filter p (take used lent.old) }
+    ensures list { take result lent.new ≡ filter (S.kept by.now) (take used lent.old) }
 {
     let mut left = 0;
     for i in 0..used {
-        if stays(&lent[i]) {
+        if by.stays(&lent[i]) {
             if left < i {
                 lent[left] = lent[i];
             }
@@ -56,7 +63,7 @@ impl<'a, T: Copy> Records<'a, T> {
     fn as_slice(&self) -> &[T]
         ensures { result.now ≡ records_list self.now }
     {
-        &self.lent[..self.used.min(self.lent.len()).min(4096)]
+        &self.lent[..self.used.min(self.capacity() as usize)]
     }
 
     pub fn capacity(&self) -> u32
@@ -128,12 +135,11 @@ impl<'a, T: Copy> Records<'a, T> {
     }
 
     // Removes the records that do not stay.
-    pub fn retain<F: Fn(&T) -> bool>(&mut self, stays: F)
-        requires { F.IsAlwaysCallable stays }
-        ensures list { (p : T → Bool) → ((x : _) (b : Bool) → F.post stays x b → b ≡ p x.now) → records_list self.new ≡ filter p (records_list self.old) }
+    pub fn retain<S: Stays<T>>(&mut self, by: &S)
+        ensures list { records_list self.new ≡ filter (S.kept by.now) (records_list self.old) }
         ensures room { records_room self.new ≡ records_room self.old }
     {
         let used = self.as_slice().len();
-        self.used = close_gaps(self.lent, used, stays);
+        self.used = close_gaps(self.lent, used, by);
     }
 }

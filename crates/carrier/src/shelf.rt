@@ -5,7 +5,7 @@ ghost use Rattle.carrier.specs.Shelves.{slot, clipped, grown, fresh, shelf_list,
 
 use crate::carrier::Carrier;
 use crate::lifetime::Lifetime;
-use crate::records::Records;
+use crate::records::{Records, Stays};
 use wire::{Frame, Refusal, Words};
 
 #[derive(Clone, Copy)]
@@ -19,10 +19,7 @@ impl Slot {
     pub const EMPTY: Slot = Slot {
         frame: Frame {
             head: 0,
-            words: Words {
-                first: 0,
-                second: 0,
-            },
+            words: Words::ZERO,
         },
         age: 0,
     };
@@ -50,11 +47,13 @@ impl Slot {
             ..self
         }
     }
+}
 
-    fn is_fresh(&self, life: Lifetime) -> bool
-        ensures { result ≡ fresh (ticks_of life) self.now }
-    {
-        self.age < life.ticks()
+impl Stays<Slot> for Lifetime {
+    ghost kept = { λ life slot. fresh (ticks_of life) slot };
+
+    fn stays(&self, slot: &Slot) -> bool {
+        slot.age < self.ticks()
     }
 }
 
@@ -67,6 +66,7 @@ pub struct Shelf<'a> {
 
 impl<'a> Shelf<'a> {
     // An empty shelf. Of the slice it uses 4,096 records at most; a lifetime outside 1 to 65,535 is taken as the nearer end.
+    // The clauses say these bounds in full, as the log's do, for who reads no definition.
     pub fn new(slots: &'a mut [Slot], lifetime: u32) -> Shelf<'a>
         ensures list { shelf_list result ≡ [] }
         ensures life { shelf_life result ≡ min 65535 (max 1 lifetime) }
@@ -107,12 +107,13 @@ impl Carrier for Shelf<'_> {
     }
 
     fn tick(&mut self) {
+        // so a tick of an empty shelf costs little
         if self.slots.is_empty() {
             return;
         }
         let life = self.life;
         self.slots.update(|slot| slot.older(life));
-        self.slots.retain(|slot| slot.is_fresh(life));
+        self.slots.retain(&life);
     }
 
     fn lifetime(&self) -> u32 {

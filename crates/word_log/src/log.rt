@@ -1,9 +1,9 @@
 // The log: a carrier that keeps four words a frame in a lent slice, the last the frame's departure on a tick count that comes round.
-ghost use Rattle.std.specs.Prelude.{◌≡◌, ◌+◌, ◌-◌, ◌/◌, ◌%◌, ◌^◌, min, max, [], length};
+ghost use Rattle.std.specs.Prelude.{◌≡◌, ◌/◌, min, max, [], length};
 ghost use Rattle.carrier.specs.Lifetimes.{ticks_of};
 ghost use Rattle.word_log.specs.Logs.{elapsed, next, played, stays, log_list, log_life, log_room, log_laws};
 
-use carrier::{Carrier, Lifetime, Records};
+use carrier::{Carrier, Lifetime, Records, Stays};
 use wire::{Frame, Refusal, Words};
 
 // The four words of a frame: its own three and its departure, the tick count at which it was put.
@@ -42,14 +42,6 @@ impl Now {
         (Frame { head, words }, age)
     }
 
-    // One tick on, the age is still below the lifetime.
-    fn stays(self, quad: &Quad) -> bool
-        ensures { result ≡ stays self.clock (ticks_of self.life) quad.now }
-    {
-        let [_, _, _, departure] = *quad;
-        self.elapsed(departure) < self.life.ticks() - 1
-    }
-
     // One tick later.
     fn next(self) -> Now
         ensures { result ≡ next self }
@@ -58,6 +50,16 @@ impl Now {
             clock: self.clock.wrapping_add(1),
             ..self
         }
+    }
+}
+
+impl Stays<Quad> for Now {
+    ghost kept = { λ now quad. stays now.clock (ticks_of now.life) quad };
+
+    // One tick on, the age is still below the lifetime.
+    fn stays(&self, quad: &Quad) -> bool {
+        let [_, _, _, departure] = *quad;
+        self.elapsed(departure) < self.life.ticks() - 1
     }
 }
 
@@ -86,6 +88,7 @@ impl<'a> Log<'a> {
     }
 }
 
+// Apart from the shelf's, though alike: of one implementation for both, no wrong version of a log's call could stand in this crate.
 impl Carrier for Log<'_> {
     ghost list = { log_list };
 
@@ -115,9 +118,8 @@ impl Carrier for Log<'_> {
     }
 
     fn tick(&mut self) {
-        let now = self.now;
-        self.quads.retain(|quad| now.stays(quad));
-        self.now = now.next();
+        self.quads.retain(&self.now);
+        self.now = self.now.next();
     }
 
     fn lifetime(&self) -> u32 {
@@ -135,6 +137,7 @@ mod tests {
 
     const LAST: u32 = 0xffff_ffff;
 
+    // The towers' tests have such helpers as well: shared, they would be public for tests alone.
     fn frame(head: u32) -> Frame {
         Frame {
             head,

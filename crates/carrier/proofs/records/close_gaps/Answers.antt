@@ -1,4 +1,4 @@
-use Rattle.std.proofs.Common.{true, false, get_or, sym, ◌∙◌, arith}
+use Rattle.std.proofs.Common.{get_or, sym, ◌∙◌, arith}
 use Rattle.std.proofs.lemmas.List.{get_or_default}
 use Rattle.std.proofs.lemmas.List.Filters.{FiltersInPlace-more_no, FiltersInPlace-more_set, FiltersInPlace-more_here}
 use Rattle.carrier.proofs.records.close_gaps.Goals as goal
@@ -15,15 +15,15 @@ loop-i-preserved g c =
           elim w.if-left-i.branch [
             | then-left-i v ↦ record {
               behind = omega arith;
-              list = λ p h. rw (w.lent-is, w.left-is, v.lent-is, v.index-lent-i-then-left-i.is ∙ get_or_default ys i _ d (omega arith)) (FiltersInPlace-more_set (c.loop-i.invariant.list p h) (omega arith) (sym (h _ true w.if-stays.ensures)) read);
+              list = rw (w.lent-is, w.left-is, v.lent-is, v.index-lent-i-then-left-i.is ∙ get_or_default ys i _ d (omega arith)) (FiltersInPlace-more_set c.loop-i.invariant.list (omega arith) (sym w.if-stays.ensures) read);
             }
             | else-left-i v ↦ record {
               behind = omega arith;
-              list = λ p h. rw (w.lent-is, w.left-is, v.lent-is) (FiltersInPlace-more_here (c.loop-i.invariant.list p h) (omega arith) (sym (h _ true w.if-stays.ensures)) read (omega arith));
+              list = rw (w.lent-is, w.left-is, v.lent-is) (FiltersInPlace-more_here c.loop-i.invariant.list (omega arith) (sym w.if-stays.ensures) read (omega arith));
             }
           ]
       | else-stays w ↦ record {
         behind = omega arith;
-        list = λ p h. rw (w.lent-is, w.left-is) (FiltersInPlace-more_no (c.loop-i.invariant.list p h) (omega arith) (sym (h _ false w.if-stays.ensures)) read);
+        list = rw (w.lent-is, w.left-is) (FiltersInPlace-more_no c.loop-i.invariant.list (omega arith) (sym w.if-stays.ensures) read);
       }
     ]

@@ -9,5 +9,4 @@ returns-clause-ticked c =
     let s = c.args.self.now in
     let life = shelf_life s in
     let raised = c.update.ensures.list (grown life) (λ x y h. search rules) in
-    let kept = c.retain.ensures.list (fresh life) (λ x b h. search rules) in
-    ap (map (clipped life)) (kept ∙ ap (filter (fresh life)) raised) ∙ raised_kept life (records_list s.slots)
+    ap (map (clipped life)) (c.retain.ensures.list ∙ ap (filter (fresh life)) raised) ∙ raised_kept life (records_list s.slots)

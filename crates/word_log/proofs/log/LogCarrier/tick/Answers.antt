@@ -1,9 +1,9 @@
-use Rattle.std.proofs.Common.{map, refl, ap, ◌∙◌, rules, arith}
+use Rattle.std.proofs.Common.{map, refl, ap, ◌∙◌, arith}
 use Rattle.carrier.specs.Lifetimes.{ticks_of}
 use Rattle.carrier.specs.Records.{records_list}
 use Rattle.carrier.proofs.Held.{held_tick}
 use Rattle.word_log.specs.declared.log.Now.{Now}
-use Rattle.word_log.specs.Logs.{played, stays, next, log_life}
+use Rattle.word_log.specs.Logs.{played, next, log_life}
 use Rattle.word_log.proofs.Logged.{later}
 use Rattle.word_log.proofs.log.LogCarrier.tick.Goals as goal
 
@@ -13,7 +13,6 @@ returns-clause-ticked c =
     let life = log_life s in
     let clock = s.now.clock in
     let after = played (next s.now).clock life in
-    let kept = c.retain.ensures.list (stays clock life) (λ q b h. search rules) in
     ap (λ (n : Now). map (played n.clock (ticks_of n.life)) (records_list c.retain.new.self)) c.next-self.ensures
-    ∙ ap (map after) kept
+    ∙ ap (map after) c.retain.ensures.list
     ∙ held_tick (played clock life) (records_list s.quads) life after (later clock (next s.now).clock life refl (omega arith))
