@@ -3,9 +3,10 @@ use crate::phase::Phase;
 use promise::Turn;
 use wire::Command;
 
+// No model: its fields are what a caller takes it apart for.
 #[derive(Drop)]
 pub struct Decoder {
-    // how many words were read
+    // how many words were read; counted here, since the place of a bad word is part of what was read
     pub place: u32,
     pub phase: Phase,
     pub terms: Vec<u32>,

@@ -46,6 +46,7 @@ const ALL: [Kind; 14] = [
 pub struct BadWord;
 
 impl Kind {
+    // A method, as a cause's number is.
     pub fn number(self) -> u8
         ensures { result ≡ kind_number self }
     {

@@ -49,6 +49,7 @@ impl Decoder {
     fn push(&mut self, call: Call<Command>) -> Result<(), AllocError>
         ensures { OnOk result (script_of self.new ≡ asked call (script_of self.old)) }
     {
+        // replay writes over it; an option in each turn would be one that is never none when it is read
         let answer = Ok(Reply::Done);
         self.turns.push(Turn { call, answer })?;
         Ok(())
@@ -99,6 +100,7 @@ impl Decoder {
         Ok(())
     }
 
+    // One word, by what is due: a match and no closures, since the phase holds what was read so far.
     fn step(&mut self, word: u32) -> Result<(), AllocError>
         requires { self.old.place < 2 ^ 31 }
         ensures { OnOk result (script_of self.new ≡ stepped (script_of self.old) word) }

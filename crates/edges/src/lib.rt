@@ -13,7 +13,7 @@ mod tests {
     use std::test::Fail;
     use wire::{Command, Content, Refusal, Terms, Window};
 
-    // The number of the refusal that terms meet, or 0.
+    // The number of the refusal that terms meet, or 0: numbers are what is expected here.
     fn refusal(terms: Result<Terms, Refusal>) -> u8 {
         terms.err().map_or(0, Refusal::number)
     }

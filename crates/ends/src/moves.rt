@@ -1,4 +1,4 @@
-// What a round sends.
+// What a round sends. Not an `Option`: a round that sends nothing is one of three.
 ghost use Rattle.ends.specs.Moves.{Moves};
 ghost use Rattle.ends.specs.Numbers.{sends_of};
 

@@ -1,4 +1,4 @@
-// The receiver's numbers. Entries are counted from 0.
+// The receiver's numbers. Entries are counted from 0. A step that takes `&mut self` says that the terms stay, as the sender's do.
 ghost use Rattle.std.specs.Prelude.{◌+◌, ◌≤◌};
 
 use wire::Terms;

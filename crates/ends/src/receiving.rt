@@ -1,6 +1,6 @@
 // The receiver's steps, over its numbers alone.
-ghost use Rattle.std.specs.Prelude.{◌≡◌, ◌+◌, ◌-◌, ◌<◌, ◌≤◌, min, max, None};
-ghost use Rattle.ends.specs.Numbers.{gets_of, one_delivered, ahead, ReadAs};
+ghost use Rattle.std.specs.Prelude.{◌≡◌, ◌+◌, ◌-◌, ◌≤◌, min, max, None};
+ghost use Rattle.ends.specs.Numbers.{gets_of, ahead, ReadAs};
 ghost use Rattle.ends.specs.Stops.{Checked, deliver_stop};
 
 use crate::cyclic::ahead;
@@ -41,11 +41,7 @@ impl Receiver {
         ensures { ReadAs (ahead self.terms.numbers cyclic self.nr) (self.terms.receive_window + self.nd - self.nr) self.nr result }
     {
         let far = ahead(self.terms, cyclic, self.nr);
-        if far < u64::from(self.room()) {
-            Some(self.nr + far)
-        } else {
-            None
-        }
+        (far < u64::from(self.room())).then_some(self.nr + far)
     }
 
     // nr goes up to a number, never down and never past its limit.

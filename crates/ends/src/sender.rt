@@ -1,4 +1,4 @@
-// The sender's numbers. Entries are counted from 0.
+// The sender's numbers. Entries are counted from 0. A step that takes `&mut self` says that the terms stay, since it could change any field.
 ghost use Rattle.std.specs.Prelude.{◌+◌, ◌≤◌, if◌then◌else◌};
 
 use wire::Terms;
@@ -16,7 +16,7 @@ pub struct Sender {
     pub sw: u32,
     // ticks since the last first send, at most the gap
     pub rest: u32,
-    // whether the end mark was accepted; it goes with no one value, and the counts above go on after it
+    // whether the end mark was accepted; it goes with no one value: ns and na go on after it
     pub sealed: bool,
     ghost order: { (na ≤ ns) × (ns ≤ ng) × (ng ≤ na + terms.send_window) },
     ghost count: { ng ≤ (if sealed then 1000001 else 1000000) },

@@ -38,7 +38,7 @@ impl Sender {
         Ok(())
     }
 
-    // One entry more; the last one is the end mark.
+    // One entry more; the last one is the end mark, and whether it is the last is kept.
     fn accepted(mut self, last: bool) -> Sender
         requires { (self.ng < self.na + self.terms.send_window) × (self.ng < (if last then 1000001 else 1000000)) }
         ensures numbers { sends_of result ≡ one_accepted last (sends_of self) }

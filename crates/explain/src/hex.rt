@@ -1,5 +1,5 @@
 // A line of text as a frame: three words of eight hexadecimal digits, with blanks between.
-ghost use Rattle.std.specs.Prelude.{◌≡◌, ◌<◌, length, IfSome, Some, None, MatchOption, true, false};
+ghost use Rattle.std.specs.Prelude.{◌≡◌, ◌<◌, IfSome, Some, None, MatchOption, true, false};
 ghost use Rattle.explain.specs.Lines.{blank, digit_of, skipped, digits_on, word_in, gapped, after_word, frame_on};
 
 use wire::{Frame, Words};
@@ -30,7 +30,7 @@ fn skip_blanks(line: &[u8]) -> &[u8]
     rest
 }
 
-// Eight digits as a word; a loop, since that no step overflows is an invariant of it.
+// Eight digits as a word. Tried with `try_fold`: that no step overflows is an invariant, and stays open.
 fn word(digits: &[u8; 8]) -> Option<u32>
     ensures { result ≡ digits_on digits.now 0 }
 {

@@ -67,6 +67,7 @@ impl Listener {
     pub fn hear(self, frame: Frame) -> Result<Meaning, Fault>
         ensures { result ≡ meaning_of self frame }
     {
+        // the block type is a type, and what was asked for a value
         match self.blocks {
             Blocks::Commands => read_by::<Command>(self.end, frame).map(Meaning::from),
             Blocks::Readings => read_by::<Reading>(self.end, frame).map(Meaning::from),

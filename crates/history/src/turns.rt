@@ -9,6 +9,7 @@ use promise::{Call, Reply};
 use wire::{Block, Refusal};
 
 // Makes the call that a value names. Calls are values, no closures, since the promise speaks of lists of them.
+// Stores and book come one by one, as the calls take them: in one struct their loans would have to be told apart again.
 pub fn make_call<B: Block, O: Carrier, K: Carrier>(
     path: &mut Path<O, K>,
     kept: &mut WindowStore<Entry<B>>,

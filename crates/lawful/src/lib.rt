@@ -1,4 +1,4 @@
-// Two lawful programs, each one small change away from a program that the check refuses.
+// Two lawful programs, each one small change away from a program that the check refuses. Each makes its path itself, in memory of its own.
 #![tactic(auto)]
 
 use carrier::{Carrier, Shelf, Slot};
@@ -64,13 +64,9 @@ mod tests {
 
     #[test]
     fn a_put_after_the_end(rt: HostRuntime) -> Result<(), Fail> {
-        let words = Words {
-            first: 0,
-            second: 0,
-        };
         let frame = Frame {
             head: 0xc000_0000,
-            words,
+            words: Words::ZERO,
         };
         let (put, count) = put_after_end(agreed()?, frame);
         assert!(rt; put.is_ok());

@@ -14,6 +14,7 @@ pub enum Line {
         kind: Kind,
         answer: Result<Reply, Refusal>,
     },
+    // the two words of an end; its outcome is the path's, which this crate does not know
     Complete {
         position: u64,
     },

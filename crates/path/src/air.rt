@@ -7,7 +7,7 @@ use carrier::Carrier;
 use wire::Refusal;
 
 impl<O: Carrier, K: Carrier> Path<O, K> {
-    // Strikes the frame at a place of the outward carrier.
+    // Strikes the frame at a place of the outward carrier. One call for each side: a side as an argument would have to be told from the other again.
     pub fn lose_outward(&mut self, place: u32) -> Result<(), Refusal>
         ensures { LostOut place (ends_of O.Carrier K.Carrier self.old) result (ends_of O.Carrier K.Carrier self.new) }
     {

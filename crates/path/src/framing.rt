@@ -26,26 +26,26 @@ pub(crate) fn acknowledgement(terms: Terms, whole: u64, room: u16) -> Frame
     (Content::<Command>::Acknowledgement { number, window }).write()
 }
 
-// The cyclic number and the window in a head.
+// The cyclic number and the window in a head. Heads with no window do not come here, since the sender's end refuses them; a type of the others would be one more beside `Head`.
 pub(crate) fn told(head: Head) -> (u16, u16)
     ensures number { result.0 ≡ cyclic_in head }
     ensures window { result.1 ≡ window_in head }
 {
     match head {
-        Head::Data { number } => (number, 0),
         Head::Acknowledgement { number, window } => (number, window.size()),
-        Head::EndMark { number } => (number, 0),
+        Head::Data { number } | Head::EndMark { number } => (number, 0),
     }
 }
 
-// The cyclic number and the entry in a content.
+// The cyclic number and the entry in a content. No acknowledgement comes here, since the receiver's end refuses it; a type of the others would be one more beside `Content`.
 pub(crate) fn carried<B: Block>(content: Content<B>) -> (u16, Entry<B>)
     ensures number { result.0 ≡ number_in content }
     ensures entry { result.1 ≡ entry_in content }
 {
     match content {
         Content::Data { number, block } => (number, Entry::Block(block)),
-        Content::Acknowledgement { number, .. } => (number, Entry::EndMark),
-        Content::EndMark { number } => (number, Entry::EndMark),
+        Content::Acknowledgement { number, .. } | Content::EndMark { number } => {
+            (number, Entry::EndMark)
+        }
     }
 }

@@ -1,5 +1,5 @@
 // What every call asks first: that the path was made, and that what is lent to it fits.
-ghost use Rattle.std.specs.Prelude.{◌≡◌, length};
+ghost use Rattle.std.specs.Prelude.{length};
 ghost use Rattle.ends.specs.Stops.{Checked};
 ghost use Rattle.path.specs.Parts.{lend_bar};
 ghost use Rattle.refusal.specs.declared.refusals.Refusal.TheVariants.{ReceiverStoreLength, SenderStoreLength};

@@ -14,7 +14,7 @@ use store::WindowStore;
 use wire::{Refusal, Terms};
 
 impl<O: Carrier, K: Carrier> Path<O, K> {
-    // Says whether making a path of these is refused.
+    // Says whether making a path of these is refused. No path stands yet that could check its store.
     pub fn check<B: Copy>(
         terms: Terms,
         out: &O,

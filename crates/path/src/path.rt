@@ -4,6 +4,7 @@ ghost use Rattle.std.specs.Prelude.{◌≡◌};
 use ends::{Receiver, Sender};
 use wire::Refusal;
 
+// No model: its end gives back the carriers themselves, which a view of their lists could not name.
 #[derive(Drop)]
 pub struct Path<O, K> {
     pub(crate) refused: Option<Refusal>,

@@ -1,10 +1,9 @@
 // The receiving user's calls. The receiver's store is lent to each that needs it, as the last call left it.
-ghost use Rattle.std.specs.Prelude.{◌≡◌, ◌≤◌, IfErr, Some, None, OnOk};
+ghost use Rattle.std.specs.Prelude.{◌≡◌, ◌≤◌};
 ghost use Rattle.path.specs.States.{ends_of};
-ghost use Rattle.path.specs.Parts.{Booked, lend_bar};
+ghost use Rattle.path.specs.Parts.{Booked};
 ghost use Rattle.ends.specs.Numbers.{ahead};
 ghost use Rattle.path.specs.Steps.{Arrived, Taken, Delivered, Acknowledged, Risen, number_in};
-ghost use Rattle.refusal.specs.declared.refusals.Refusal.TheVariants.{ReceiverStoreLength};
 ghost use Rattle.store.specs.Stores.{stored};
 
 use crate::entry::Entry;
@@ -14,7 +13,7 @@ use carrier::Carrier;
 use store::WindowStore;
 use wire::{Block, Content, Refusal};
 
-// The first number from `from` on whose place is empty, at most `limit`.
+// The first number from `from` on whose place is empty, at most `limit`. Tried with `find`: that the places before it are filled stays open.
 fn climb<B: Block>(got: &WindowStore<Option<Entry<B>>>, from: u64, limit: u64) -> u64
     requires { from ≤ limit }
     ensures { Risen (stored got.now) from limit result }
@@ -28,6 +27,7 @@ fn climb<B: Block>(got: &WindowStore<Option<Entry<B>>>, from: u64, limit: u64) -
 }
 
 // Writes what lay under a number into the book: a block, or nothing for the end mark or an empty place.
+// By place: of what is written through `get_mut` no proof knows.
 fn write_due<B: Block>(book: &mut [B], number: u64, due: Option<Entry<B>>) -> Result<(), Refusal>
     ensures { Booked due number book.old result book.new }
 {

@@ -14,7 +14,7 @@ use store::WindowStore;
 use wire::{Block, Refusal};
 
 impl<O: Carrier, K: Carrier> Path<O, K> {
-    // Delivers while it is accepted, and answers how many entries were delivered.
+    // Delivers while it is accepted, and answers how many entries were delivered. A closure that delivers would hold what the clauses speak of.
     fn deliver_all<B: Block>(
         &mut self,
         got: &mut WindowStore<Option<Entry<B>>>,

@@ -1,10 +1,8 @@
 // The sending user's calls. The sender's store is lent to each, as the last call left it.
-ghost use Rattle.std.specs.Prelude.{◌≡◌, IfErr, Some, None, OnOk};
-ghost use Rattle.path.specs.Parts.{lend_bar};
+ghost use Rattle.std.specs.Prelude.{◌≡◌};
 ghost use Rattle.path.specs.States.{ends_of};
 ghost use Rattle.path.specs.Steps.{Offered, Sealed, Sent, Resent, Heard};
 ghost use Rattle.store.specs.Stores.{stored};
-ghost use Rattle.refusal.specs.declared.refusals.Refusal.TheVariants.{SenderStoreLength};
 
 use crate::entry::Entry;
 use crate::framing::told;

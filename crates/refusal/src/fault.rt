@@ -36,11 +36,11 @@ impl Cause {
 pub struct Fault {
     pub layer: Layer,
     pub cause: Cause,
-    // the first word at fault: 0 is the head
+    // the first word at fault, counted from the head, which is 0; a number, since it is told and printed as one
     pub word: u8,
 }
 
-// One name for each fault that there is: built from a layer and a cause, a fault could name a pair that no reader finds.
+// One name for each fault that a reader finds; by a layer and a cause, callers would have to know which go together.
 impl Fault {
     pub fn no_kind() -> Fault
         ensures { result ≡ no_kind }

@@ -14,6 +14,7 @@ use wire::{Frame, Refusal};
 #[derive(Drop)]
 pub struct Short<C> {
     below: C,
+    // 0 counts as 1; no more is cut, since the lifetime below is the other bound
     own: u32,
 }
 

@@ -18,7 +18,7 @@ impl fmt::Display for Order {
     }
 }
 
-// A call as it is told.
+// A call as it is told; types of this program, this one and the others, since neither `Display` nor what they hold is.
 #[derive(Clone, Copy)]
 struct Told(Call<Command>);
 
@@ -41,7 +41,7 @@ impl fmt::Display for Told {
     }
 }
 
-// Why a call was refused.
+// Why a call was refused. Words that a line puts in: with a `Display` of their own they would be one more type.
 fn reason(refusal: Refusal) -> &'static str {
     match refusal {
         Refusal::TermOutOfRange => "a term is out of range",
@@ -67,7 +67,7 @@ fn reason(refusal: Refusal) -> &'static str {
     }
 }
 
-// What the number means that a step answers.
+// What the number means that a call answers; words that a line puts in, likewise.
 fn meaning(call: Call<Command>) -> &'static str {
     match call {
         Call::Offer(_) | Call::Seal => "accepted as entry",

@@ -21,7 +21,7 @@ pub struct Terms {
     ghost enough: { Enough send_window receive_window lifetime gap numbers },
 }
 
-// The terms that the least count of numbers follows from, each in its range.
+// The terms that the least count of numbers follows from, each in its range. No part of `Terms`: every contract above names its five fields.
 #[derive(Clone, Copy)]
 struct Sizes {
     send_window: u32,
@@ -137,6 +137,7 @@ impl Terms {
         self.sizes().gaps()
     }
 
+    // All but the count of numbers.
     fn sizes(&self) -> Sizes
         ensures { (result.lifetime ≡ self.now.lifetime) × (result.gap ≡ self.now.gap) }
     {

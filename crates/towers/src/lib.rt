@@ -28,13 +28,11 @@ mod tests {
     use wire::{Refusal, Words};
     use word_log::Log;
 
+    // The log's tests have the next two as well: shared, they would be public for tests alone.
     fn frame(head: u32) -> Frame {
         Frame {
             head,
-            words: Words {
-                first: 0,
-                second: 0,
-            },
+            words: Words::ZERO,
         }
     }
 
@@ -46,7 +44,7 @@ mod tests {
             .map(|(frame, age)| (frame.head, age))
     }
 
-    // The number of a refusal, and 0 for none.
+    // The number of a refusal, and 0 for none: numbers are what is expected here.
     fn number(res: Result<(), Refusal>) -> u8 {
         res.err().map_or(0, Refusal::number)
     }

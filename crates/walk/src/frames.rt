@@ -1,4 +1,4 @@
-// The frames of any carrier in order, each with its age.
+// The frames of any carrier in order, each with its age: a struct, whose members say which frames are left.
 ghost use Rattle.std.specs.Prelude.{◌≡◌};
 ghost use Rattle.std.specs.Iterator.{YieldsFirst, item_count};
 ghost use Rattle.walk.specs.Frames.{frames_left};

@@ -12,7 +12,7 @@ mod frames;
 
 use frames::Frames;
 
-// Strikes every frame from `place` on. Only the place counts, so unlike `strike_old` it looks at no frame.
+// Strikes every frame from `place` on. Only the place counts, so unlike `strike_old` it looks at no frame; one walk for both would take a closure, and look at each.
 pub fn strike_from<C: Carrier>(c: &mut C, place: u32)
     ensures list { C.Carrier.list c.new ≡ take place (C.Carrier.list c.old) }
     ensures within { length (C.Carrier.list c.new) ≤ place }

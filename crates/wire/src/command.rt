@@ -13,6 +13,7 @@ pub enum Command {
     Set { channel: u16, level: u32 },
 }
 
+// Kinds as they stand in the first word; read, they are the variants of `Command`.
 const STOP: u32 = 0x4000_0000;
 
 const START: u32 = 0x8000_0000;

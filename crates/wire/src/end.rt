@@ -29,6 +29,7 @@ impl End {
     pub fn check(self, head: Head) -> Result<(), Fault>
         ensures { result ≡ checked_of self head }
     {
+        // an arm for each pair that is taken
         let number = match (self.side, head) {
             (Side::Sender, Head::Acknowledgement { number, .. }) => number,
             (Side::Receiver, Head::Data { number }) => number,

@@ -17,6 +17,7 @@ pub struct Frame {
     pub words: Words,
 }
 
+// Kinds as they stand in a head; read, they are the variants of `Head`.
 const DATA: u32 = 0x4000_0000;
 
 const ACKNOWLEDGEMENT: u32 = 0x8000_0000;
@@ -35,7 +36,8 @@ fn zero(value: u32, word: u8) -> Result<(), Fault>
 }
 
 impl Words {
-    const ZERO: Words = Words {
+    // What stands below a head with no block.
+    pub const ZERO: Words = Words {
         first: 0,
         second: 0,
     };
@@ -49,8 +51,8 @@ impl Words {
     }
 }
 
+// Methods and no `TryFrom`, and `write` below no `From`: what they promise has parts, each with its name.
 impl Frame {
-    // Each of these is a method and no `TryFrom`, and `write` below no `From`: what they promise has parts, each with its name.
     // Reads the head, and refuses bits that must be zero and are not.
     pub fn head(self) -> Result<Head, Fault>
         ensures value { result ≡ head_of self }

@@ -1,4 +1,4 @@
-// The functions that C firmware calls; include/transfer.h declares them. Each is wire's function of the same name.
+// The functions that C firmware calls; include/transfer.h declares them. Each is wire's function of the same name: the kit builds a crate as a library or as an archive for C, not as both.
 #![tactic(auto)]
 
 ghost use Rattle.std.specs.Prelude.{◌≡◌};
