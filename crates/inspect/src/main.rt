@@ -18,7 +18,7 @@ fn end_at(side: Side, numbers: &str) -> anyhow::Result<End> {
     Ok(End { side, numbers })
 }
 
-// What the arguments ask for: which blocks data frames hold, and at which end the frames came in.
+// What the arguments ask for, in types of other crates, so by a match and no `FromStr`: which blocks data frames hold, and at which end the frames came in.
 fn listener(rt: &HostRuntime) -> anyhow::Result<Listener> {
     let mut blocks = Blocks::Commands;
     let mut side = None;
@@ -44,9 +44,8 @@ fn listener(rt: &HostRuntime) -> anyhow::Result<Listener> {
 
 fn run(rt: &HostRuntime) -> anyhow::Result<()> {
     let listener = listener(rt)?;
-    let mut place: u64 = 0;
-    for line in BufReader::new(rt.alloc(), rt.stdin())?.split(rt.alloc(), b'\n') {
-        place = place.saturating_add(1);
+    let lines = BufReader::new(rt.alloc(), rt.stdin())?.split(rt.alloc(), b'\n');
+    for (place, line) in (1..=u64::MAX).zip(lines) {
         match explain(listener, place, &line?) {
             Ok(meaning) => println!(rt; "{meaning}")?,
             Err(unread) => println!(rt; "{unread}")?,

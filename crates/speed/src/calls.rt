@@ -1,8 +1,10 @@
 // Paths on which only some calls of each block are made.
 use crate::block::block;
 use crate::sum::Sum;
+use crate::usage;
 use carrier::Carrier;
 use path::{Entry, Path, WindowStore};
+use std::str::FromStr;
 use wire::{Reading, Terms};
 
 pub const PATHS: u32 = 25;
@@ -21,21 +23,21 @@ pub enum Upto {
     Resend,
 }
 
-impl TryFrom<u16> for Upto {
-    type Error = ();
+impl FromStr for Upto {
+    type Err = anyhow::Error;
 
-    fn try_from(step: u16) -> Result<Upto, ()> {
-        match step {
-            0 => Ok(Upto::Nothing),
-            1 => Ok(Upto::Offer),
-            2 => Ok(Upto::Tick),
-            3 => Ok(Upto::Send),
-            4 => Ok(Upto::Arrive),
-            5 => Ok(Upto::Deliver),
-            6 => Ok(Upto::Acknowledge),
-            7 => Ok(Upto::Hear),
-            8 => Ok(Upto::Resend),
-            _ => Err(()),
+    fn from_str(word: &str) -> anyhow::Result<Upto> {
+        match word.parse::<u16>() {
+            Ok(0) => Ok(Upto::Nothing),
+            Ok(1) => Ok(Upto::Offer),
+            Ok(2) => Ok(Upto::Tick),
+            Ok(3) => Ok(Upto::Send),
+            Ok(4) => Ok(Upto::Arrive),
+            Ok(5) => Ok(Upto::Deliver),
+            Ok(6) => Ok(Upto::Acknowledge),
+            Ok(7) => Ok(Upto::Hear),
+            Ok(8) => Ok(Upto::Resend),
+            _ => Err(usage()),
         }
     }
 }
@@ -43,7 +45,7 @@ impl TryFrom<u16> for Upto {
 // As many blocks as both windows hold, so that no call needs another one after it.
 pub const WINDOW: u32 = 4096;
 
-// The sender's part of block i and its arrival. No table of closures: what calls one would be counted too.
+// The sender's part of block i and its arrival. No closures, and no struct of what is lent: what stands here is what is counted.
 fn forth<O: Carrier, K: Carrier>(
     path: &mut Path<O, K>,
     kept: &mut WindowStore<Entry<Reading>>,

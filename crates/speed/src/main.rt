@@ -27,7 +27,11 @@ const USAGE: &str =
 
 const BLANK: Reading = Reading { time: 0, value: 0 };
 
-// What carries the frames.
+fn usage() -> anyhow::Error {
+    anyhow!("{USAGE:?}")
+}
+
+// What carries the frames. Each has an arm of its own where it is used, since the carriers differ in type.
 #[derive(Clone, Copy)]
 enum Over {
     // a shelf each way
@@ -43,7 +47,7 @@ impl FromStr for Over {
         match word {
             "shelves" => Ok(Over::Shelves),
             "log" => Ok(Over::Log),
-            _ => Err(anyhow!("{USAGE:?}")),
+            _ => Err(usage()),
         }
     }
 }
@@ -64,7 +68,7 @@ impl FromStr for Ticking {
             "shelf" => Ok(Ticking::Shelf),
             "log" => Ok(Ticking::Log),
             "two_way" => Ok(Ticking::TwoWay),
-            _ => Err(anyhow!("{USAGE:?}")),
+            _ => Err(usage()),
         }
     }
 }
@@ -137,23 +141,25 @@ fn make_ticks(rt: &HostRuntime, kind: Ticking, held: u16) -> anyhow::Result<Sum>
     Ok(sum)
 }
 
+// How many frames a carrier holds: no more than it can.
+fn held(word: &str) -> anyhow::Result<u16> {
+    match word.parse() {
+        Ok(held) if held <= 4096 => Ok(held),
+        _ => Err(usage()),
+    }
+}
+
 // What the arguments ask for.
 fn run(rt: &HostRuntime) -> anyhow::Result<()> {
     let mut words = env::args(rt)?.skip(1);
     let sum = match (words.next(), words.next(), words.next(), words.next()) {
         (Some(job), None, None, None) => move_blocks(rt, job.parse()?)?,
-        (Some(job), Some(kind), Some(count), None) => {
-            let count = count.parse::<u16>().map_err(|_| anyhow!("{USAGE:?}"))?;
-            match job.as_str() {
-                "calls" => {
-                    let upto = Upto::try_from(count).map_err(|()| anyhow!("{USAGE:?}"))?;
-                    make_calls(rt, kind.parse()?, upto)?
-                }
-                "ticks" if count <= 4096 => make_ticks(rt, kind.parse()?, count)?,
-                _ => return Err(anyhow!("{USAGE:?}")),
-            }
-        }
-        _ => return Err(anyhow!("{USAGE:?}")),
+        (Some(job), Some(kind), Some(count), None) => match job.as_str() {
+            "calls" => make_calls(rt, kind.parse()?, count.parse()?)?,
+            "ticks" => make_ticks(rt, kind.parse()?, held(&count)?)?,
+            _ => return Err(usage()),
+        },
+        _ => return Err(usage()),
     };
     println!(rt; "{}", sum.value)?;
     Ok(())
