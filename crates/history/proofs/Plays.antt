@@ -1,5 +1,5 @@
 -- One turn more of a list of calls, and the promise for the whole list. Assumes nothing.
-use Rattle.std.proofs.Common.{◌≡◌, ℕ, zero, suc, ◌+◌, ◌<◌, ◌≤◌, List, [], ◌∷◌, ◌++◌, length, get_or, take, set, Ok, Option, sym, refl, ap, ◌∙◌, subst, take_all}
+use Rattle.std.proofs.Common.{◌≡◌, ℕ, zero, suc, ◌+◌, ◌<◌, List, [], ◌∷◌, ◌++◌, length, get_or, take, set, Ok, Option, sym, refl, ap, ◌∙◌, subst}
 use mathlib.Core.Path.{transport}
 use Rattle.std.proofs.lemmas.List.{take_more_set}
 use Rattle.carrier.specs.Carriers.{Aged}
@@ -63,9 +63,6 @@ module _ {B : Type 0} (b : Ghosts B) where
   -- one turn of a loop that writes the answers in
   pub plays_turn : {s m s' : State B} (ts : List (Turn B)) (i : ℕ) (t : Turn B) → i < length ts → Plays b s (take i ts) m → Makes b m t.call t.answer s' → Plays b s (take (i + 1) (set ts i t)) s'
   plays_turn {s} {m} {s'} ts i t h p q = subst (λ us. Plays b s us s') (sym (take_more_set ts i t h)) (plays_more t p q)
-
-  pub plays_all : {s s' : State B} (ts : List (Turn B)) (i : ℕ) → length ts ≤ i → Plays b s (take i ts) s' → Plays b s ts s'
-  plays_all {s} {s'} ts i h p = subst (λ us. Plays b s us s') (take_all i ts h) p
 
   -- a run from the making to the end, by what the code holds at both
   pub whole : (back-law : (x : B) → b.fits x → b.reads (b.written x) ≡ Ok x) (first s₀ s₁ : State B) (asked turns : List (Turn B)) (outcome : Outcome) (out back : List Aged)

@@ -1,7 +1,7 @@
 use Rattle.std.proofs.Common.{refl, ap, ◌∙◌, arith}
 use Rattle.std.proofs.lemmas.List.{get_or_default}
 use Rattle.promise.specs.declared.call.Turn.{Turn}
-use Rattle.history.proofs.Plays.{plays_none, plays_turn, plays_all, calls_of_set}
+use Rattle.history.proofs.Plays.{plays_none, plays_turn, calls_of_set}
 use Rattle.history.proofs.playing.play.Goals as goal
 
 pub loop-turn-init : goal.loop-turn-init
@@ -16,13 +16,3 @@ loop-turn-preserved g c =
       told.kept_lender ∙ inv.2,
       told.got_lender ∙ inv.3,
     )
-
-pub returns : goal.returns
-returns g c =
-    let inv = c.loop-turn.invariant in
-    record {
-      played = plays_all _ c.loop-turn.turns c.loop-turn.turn-index (omega arith) inv.0;
-      same = inv.1;
-      kept_lender = inv.2;
-      got_lender = inv.3;
-    }
