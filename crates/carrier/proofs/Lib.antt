@@ -1,3 +1,4 @@
 pub mod Calls
 pub mod Held
+pub mod Slices
 mod Shelved

@@ -1,7 +1,7 @@
 -- What holds of every element, and what a map leaves.
-use Rattle.std.proofs.Common.{◌≡◌, ℕ, suc, Bool, true, false, cond, List, [], ◌∷◌, map, take, drop, filter, refl, ap, ◌∙◌}
+use Rattle.std.proofs.Common.{◌≡◌, ℕ, suc, ◌≤◌, Bool, true, false, cond, List, [], ◌∷◌, map, length, take, drop, filter, refl, ap, ◌∙◌, arith}
 use Rattle.std.specs.List.{insert, remove, AllByRecursion}
-use Rattle.std.proofs.lemmas.List.{take-map, drop-map, map-append}
+use Rattle.std.proofs.lemmas.List.{length-take, take-map, drop-map, map-append, take-append-le, take-take}
 use Rattle.std.proofs.ByRecursion.{All-append, All-take, All-drop}
 
 module _ {X : Type 0} where
@@ -14,6 +14,12 @@ module _ {X : Type 0} where
 
   pub all_inserted : (P : X → Type 0) (xs : List X) (k : ℕ) (x : X) → P x → AllByRecursion P xs → AllByRecursion P (insert xs k x)
   all_inserted P xs k x p h = All-append P (take k xs) (x ∷ drop k xs) (All-take P k xs h) (p, All-drop P k xs h)
+
+  -- what is removed behind the first n leaves them
+  pub take_removed : (xs : List X) (n k : ℕ) → n ≤ k → k ≤ length xs → take n (remove xs k) ≡ take n xs
+  take_removed xs n k le in' =
+      let h : n ≤ length (take k xs) = simp length-take (omega arith) in
+      rw (take-append-le, take-take)
 
 module _ {X Y : Type 0} where
   pub removed_map : (f : X → Y) (xs : List X) (k : ℕ) → map f (remove xs k) ≡ remove (map f xs) k

@@ -1,10 +1,10 @@
 -- What passes a test in a list, place by place.
 use Rattle.std.proofs.Common.{◌≡◌, ℕ, suc, ◌+◌, ◌<◌, ◌≤◌, Bool, true, false, cond, not, List, [], ◌∷◌, ◌++◌, length, get_or, take, drop, filter, sym, refl, ap, ◌∙◌, inl, inr, add-one, arith}
 use Rattle.std.specs.List.{remove, AllByRecursion}
-use Rattle.std.proofs.lemmas.List.{take-append-drop, drop_more, drop_at, length-take-le}
+use Rattle.std.proofs.lemmas.List.{take-append-drop, drop_more, drop_at, get_or_at, length-take-le, length-append}
 use Rattle.std.proofs.lemmas.List.Elements.{filter-append}
 use Rattle.std.proofs.lemmas.Bool.{cases_Bool}
-use Rattle.std.proofs.lemmas.List.Filters.{length-filter_both}
+use Rattle.std.proofs.lemmas.List.Filters.{length-filter_more, length-filter_both}
 
 module _ {X : Type 0} (p : X → Bool) where
   pub length-kept : (xs : List X) → length (filter p xs) ≤ length xs
@@ -41,6 +41,25 @@ module _ {X : Type 0} (p : X → Bool) where
     kept_removed no' =
         filter-append p (take i xs) (drop (suc i) xs)
         ∙ rw (← add-one i) (ap (λ l. filter p (take i xs) ++ l) (sym (kept_no x (drop (i + 1) xs) no')) ∙ sym kept_split)
+
+    pub kept_rest : p x ≡ true → filter p (drop (i + 1) xs) ≡ drop (i + 1) xs → filter p (drop i xs) ≡ drop i xs
+    kept_rest ok h = ap (filter p) drop_here ∙ kept_yes x (drop (i + 1) xs) ok ∙ ap (λ l. x ∷ l) h ∙ sym drop_here
+
+    split_yes : p x ≡ true → filter p xs ≡ filter p (take i xs) ++ x ∷ filter p (drop (i + 1) xs)
+    split_yes ok = kept_split ∙ ap (λ l. filter p (take i xs) ++ l) (kept_yes x (drop (i + 1) xs) ok)
+
+    -- one that passes stands behind as many as pass before it
+    pub get_or-kept : (k : ℕ) (z : X) → p x ≡ true → length (filter p (take i xs)) ≡ k → get_or (filter p xs) k z ≡ x
+    get_or-kept k z ok n = ap (λ l. get_or l k z) (split_yes ok) ∙ get_or_at (filter p (take i xs)) x (filter p (drop (i + 1) xs)) z k n
+
+    pub below_kept : p x ≡ true → length (filter p (take i xs)) < length (filter p xs)
+    below_kept ok = omega (arith, ap length (split_yes ok), length-append (filter p (take i xs)) (x ∷ filter p (drop (i + 1) xs)))
+
+    pub count_yes : p x ≡ true → length (filter p (take (i + 1) xs)) ≡ length (filter p (take i xs)) + 1
+    count_yes ok = length-filter_more p xs i d lt ∙ ap (λ (b : Bool). length (filter p (take i xs)) + cond b 1 0) (ap p (sym e) ∙ ok)
+
+    pub count_no : p x ≡ false → length (filter p (take (i + 1) xs)) ≡ length (filter p (take i xs))
+    count_no no' = length-filter_more p xs i d lt ∙ ap (λ (b : Bool). length (filter p (take i xs)) + cond b 1 0) (ap p (sym e) ∙ no') ∙ omega arith
 
 module _ {X : Type 0} (p q : X → Bool) where
   -- two tests in a row, where the second is the stronger

@@ -1,3 +1,4 @@
 pub mod Elements
 pub mod Gaps
 pub mod Kept
+pub mod Joins
