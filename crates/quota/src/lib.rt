@@ -2,7 +2,7 @@
 #![tactic(auto)]
 
 ghost use Rattle.std.specs.Prelude.{◌≡◌, ◌≤◌, min, [], length};
-ghost use Rattle.carrier.specs.Carriers.{SameBounds};
+ghost use Rattle.carrier.specs.Carriers.{Put, SameBounds};
 ghost use Rattle.quota.specs.Quotas.{quota_list, quota_life, quota_room, quota_laws};
 
 use carrier::Carrier;
@@ -56,8 +56,12 @@ impl<C: Carrier> Carrier for Quota<C> {
 
     ghost laws = { quota_laws C.Carrier };
 
-    fn put(&mut self, frame: Frame) -> Result<(), Refusal> {
-        self.settle();
+    fn put(&mut self, frame: Frame) -> Result<(), Refusal>
+        ensures put { Put (quota_room C.Carrier self.old) frame (quota_list C.Carrier self.old) result (quota_list C.Carrier self.new) }
+        ensures bounds { SameBounds (quota_life C.Carrier) (quota_room C.Carrier) self.old self.new }
+        ensures settled { length (C.Carrier.list self.new.below) ≤ self.new.limit }
+    {
+        self.settle(); // by a put that is refused too
         if self.below.count() >= self.limit {
             return Err(Refusal::CarrierFull);
         }
