@@ -1,5 +1,5 @@
 // A list of records in a lent slice, with room for more.
-ghost use Rattle.std.specs.Prelude.{◌≡◌, ◌==◌, ◌≤◌, min, Bool, [], ◌++◌, map, length, take, drop, filter, slice_get};
+ghost use Rattle.std.specs.Prelude.{◌≡◌, ◌==◌, ◌≤◌, min, Bool, [], ◌++◌, map, length, take, drop, filter, slice_get, MatchOption, Some, None};
 ghost use Rattle.std.specs.Option.{ok_or};
 ghost use Rattle.carrier.specs.Records.{records_list, records_room, Pushed, Removed};
 
@@ -56,6 +56,7 @@ impl<'a, T: Copy> Records<'a, T> {
     pub fn new(lent: &'a mut [T]) -> Records<'a, T>
         ensures list { records_list result ≡ [] }
         ensures room { records_room result ≡ min 4096 (length lent.old) }
+        ensures lent { result.lent.now ≡ lent.old }
     {
         Records { lent, used: 0 }
     }
@@ -84,14 +85,18 @@ impl<'a, T: Copy> Records<'a, T> {
         self.used == 0 || self.lent.is_empty()
     }
 
+    // The record at a place, where it lies: one that is copied out whole is read back part by part, which takes three times as long.
+    pub(crate) fn find(&self, place: u32) -> Option<&T>
+        ensures { MatchOption result (slice_get (records_list self.now) place ≡ None) (λ item. slice_get (records_list self.now) place ≡ Some item.now) }
+    {
+        self.as_slice().get(place as usize)
+    }
+
     // The record at a place.
     pub fn get(&self, place: u32) -> Result<T, Refusal>
         ensures { result ≡ ok_or (slice_get (records_list self.now) place) Refusal.NoSuchPlace }
     {
-        self.as_slice()
-            .get(place as usize)
-            .copied()
-            .ok_or(Refusal::NoSuchPlace)
+        self.find(place).copied().ok_or(Refusal::NoSuchPlace)
     }
 
     // The record joins behind the others.

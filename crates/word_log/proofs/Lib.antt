@@ -1,1 +1,2 @@
 mod Logged
+mod Quads

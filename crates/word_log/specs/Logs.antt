@@ -1,5 +1,5 @@
 -- What a log means, at every value.
-use Rattle.std.specs.Prelude.{ℕ, ◌+◌, ◌-◌, ◌%◌, ◌^◌, min, Bool, List, map, nat_lt, slice_index}
+use Rattle.std.specs.Prelude.{◌≡◌, ℕ, ◌+◌, ◌-◌, ◌/◌, ◌%◌, ◌^◌, min, Bool, List, [], ◌∷◌, map, length, nat_lt, slice_index, refl}
 use Rattle.std.proofs.Common.{arith}
 use Rattle.wire.specs.declared.frame.Frame.{Frame}
 use Rattle.carrier.specs.Carriers.{Aged, Lawful}
@@ -7,6 +7,21 @@ use Rattle.carrier.specs.Lifetimes.{ticks_of}
 use Rattle.carrier.specs.Records.{records_list, records_room, records_lawful}
 use Rattle.word_log.specs.declared.log.Now.{Now}
 use Rattle.word_log.specs.declared.log.Log.{Log}
+
+-- words in fours, one for each frame; what is left over counts for nothing
+abbrev pub quads : List ℕ → List (List ℕ)
+quads [] = []
+quads (a ∷ []) = []
+quads (a ∷ (b ∷ [])) = []
+quads (a ∷ (b ∷ (c ∷ []))) = []
+quads (a ∷ (b ∷ (c ∷ (d ∷ ws)))) = (a ∷ (b ∷ (c ∷ (d ∷ [])))) ∷ quads ws
+
+pub length-quads : (ws : List ℕ) → length (quads ws) ≡ length ws / 4
+length-quads [] = refl
+length-quads (a ∷ []) = refl
+length-quads (a ∷ (b ∷ [])) = refl
+length-quads (a ∷ (b ∷ (c ∷ []))) = refl
+length-quads (a ∷ (b ∷ (c ∷ (d ∷ ws)))) = omega (arith, length-quads ws)
 
 -- the frame of four words, of which the last is its departure
 abbrev pub framed : List ℕ → Frame

@@ -1,7 +1,7 @@
 // The log: a carrier that keeps four words a frame in a lent slice, the last the frame's departure on a tick count that comes round.
 ghost use Rattle.std.specs.Prelude.{◌≡◌, ◌/◌, min, max, [], length};
 ghost use Rattle.carrier.specs.Lifetimes.{ticks_of};
-ghost use Rattle.word_log.specs.Logs.{elapsed, next, played, stays, log_list, log_life, log_room, log_laws};
+ghost use Rattle.word_log.specs.Logs.{elapsed, next, played, quads, stays, log_list, log_life, log_room, log_laws};
 
 use carrier::{Carrier, Lifetime, Records, Stays};
 use wire::{Frame, Refusal, Words};
@@ -76,6 +76,7 @@ impl<'a> Log<'a> {
         ensures list { log_list result ≡ [] }
         ensures life { log_life result ≡ min 65535 (max 1 lifetime) }
         ensures room { log_room result ≡ min 4096 (length words.old / 4) }
+        ensures quads { result.quads.lent.now ≡ quads words.old }
     {
         let (quads, _) = words.as_chunks_mut::<4>();
         Log {
