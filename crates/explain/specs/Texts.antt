@@ -12,6 +12,7 @@ use Rattle.refusal.specs.declared.fault.Layer.TheVariants.{Frame as InFrame, End
 use Rattle.wire.specs.declared.frame.Frame.{Frame}
 use Rattle.explain.specs.Lines.{frame_on}
 use Rattle.explain.specs.Meanings.{meaning_of}
+use Rattle.explain.specs.declared.line.Explained.{Explained}
 use Rattle.explain.specs.declared.line.Unread.{Unread}
 use Rattle.explain.specs.declared.line.Unread.TheVariants.{Malformed, NoFrame}
 use Rattle.explain.specs.declared.meaning.Listener.{Listener}
@@ -49,6 +50,14 @@ meaning_text (EndMark number) = codes "end mark " ++ decimal number
 abbrev pub unread_text : Unread → List ℕ
 unread_text (Malformed fault) = codes "malformed: " ++ fault_text fault
 unread_text (NoFrame place) = codes "line " ++ (decimal place ++ codes ": no frame (three words of eight hexadecimal digits)")
+
+abbrev pub either_text : Result Meaning Unread → List ℕ
+either_text (Ok meaning) = meaning_text meaning
+either_text (Err unread) = unread_text unread
+
+-- what is printed for a line: what it says, or why it says nothing
+abbrev pub explained_text : Explained → List ℕ
+explained_text explained = either_text explained.0
 
 abbrev pub told_of : Result Meaning Fault → Result Meaning Unread
 told_of (Ok meaning) = Ok meaning

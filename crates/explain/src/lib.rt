@@ -8,5 +8,5 @@ mod meaning;
 mod text;
 
 pub use hex::frame_in;
-pub use line::{Unread, explain};
+pub use line::{Explained, Unread, explain, try_explain};
 pub use meaning::{Blocks, Listener, Meaning};

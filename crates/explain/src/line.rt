@@ -1,6 +1,6 @@
 // One line of a capture, explained.
 ghost use Rattle.std.specs.Prelude.{◌≡◌, Some};
-ghost use Rattle.explain.specs.Texts.{explained_of, unread_text};
+ghost use Rattle.explain.specs.Texts.{explained_of, explained_text, unread_text};
 ghost use Rattle.explain.specs.declared.line.Unread.TheVariants.{Malformed};
 
 use crate::hex::frame_in;
@@ -25,12 +25,34 @@ impl From<Fault> for Unread {
     }
 }
 
+// What is told of a line or a frame, whatever it is: what it says, or why it says nothing.
+#[derive(Clone, Copy)]
+pub struct Explained(pub Result<Meaning, Unread>);
+
 // What a line of a capture says to a listener.
-pub fn explain(listener: Listener, place: u64, line: &[u8]) -> Result<Meaning, Unread>
+pub fn try_explain(listener: Listener, place: u64, line: &[u8]) -> Result<Meaning, Unread>
     ensures { result ≡ explained_of listener place line.now }
 {
     let frame = frame_in(line).ok_or(Unread::NoFrame(place))?;
-    Ok(listener.hear(frame)?)
+    Ok(listener.try_hear(frame)?)
+}
+
+// What is told of a line of a capture. This cannot fail: a line that says nothing is explained too.
+pub fn explain(listener: Listener, place: u64, line: &[u8]) -> Explained
+    ensures { result.0 ≡ explained_of listener place line.now }
+{
+    Explained(try_explain(listener, place, line))
+}
+
+impl fmt::Display for Explained {
+    ghost output = { λ e. Some (explained_text e) };
+
+    fn fmt<W: fmt::Write>(&self, f: &mut fmt::Formatter<W>) -> fmt::Result {
+        match self.0 {
+            Ok(meaning) => write!(f, "{meaning}"),
+            Err(unread) => write!(f, "{unread}"),
+        }
+    }
 }
 
 impl fmt::Display for Unread {

@@ -1,9 +1,11 @@
 // From a captured frame to its meaning.
 ghost use Rattle.std.specs.Prelude.{◌≡◌, ℕ};
 ghost use Rattle.explain.specs.Meanings.{meant, read_by, meaning_of};
+ghost use Rattle.explain.specs.Texts.{told_of};
 ghost use Rattle.explain.specs.declared.meaning.Meaning.{Meaning as Told};
 ghost use Rattle.explain.specs.declared.meaning.Meaning.TheVariants.{Command as ofCommand, Reading as ofReading};
 
+use crate::line::{Explained, Unread};
 use crate::meaning::{Blocks, Listener, Meaning};
 use wire::{Block, Command, Content, End, Fault, Frame, Reading};
 
@@ -64,7 +66,8 @@ fn read_by<B: Block>(end: Option<End>, frame: Frame) -> Result<Content<B>, Fault
 }
 
 impl Listener {
-    pub fn hear(self, frame: Frame) -> Result<Meaning, Fault>
+    // What a frame says to this listener.
+    pub fn try_hear(self, frame: Frame) -> Result<Meaning, Fault>
         ensures { result ≡ meaning_of self frame }
     {
         // the block type is a type, and what was asked for a value
@@ -72,5 +75,12 @@ impl Listener {
             Blocks::Commands => read_by::<Command>(self.end, frame).map(Meaning::from),
             Blocks::Readings => read_by::<Reading>(self.end, frame).map(Meaning::from),
         }
+    }
+
+    // What is told of a frame, malformed or not.
+    pub fn hear(self, frame: Frame) -> Explained
+        ensures { result.0 ≡ told_of (meaning_of self frame) }
+    {
+        Explained(self.try_hear(frame).map_err(Unread::from))
     }
 }

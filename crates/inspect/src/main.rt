@@ -46,10 +46,7 @@ fn run(rt: &HostRuntime) -> anyhow::Result<()> {
     let listener = listener(rt)?;
     let lines = BufReader::new(rt.alloc(), rt.stdin())?.split(rt.alloc(), b'\n');
     for (place, line) in (1..=u64::MAX).zip(lines) {
-        match explain(listener, place, &line?) {
-            Ok(meaning) => println!(rt; "{meaning}")?,
-            Err(unread) => println!(rt; "{unread}")?,
-        }
+        println!(rt; "{}", explain(listener, place, &line?))?;
     }
     Ok(())
 }
