@@ -97,7 +97,10 @@ impl Carrier for Shelf<'_> {
     }
 
     fn show(&self, place: u32) -> Result<(Frame, u32), Refusal> {
-        let slot = self.slots.get(place)?;
+        // not by `?`: from one result into another the compiler moves the frame byte by byte
+        let Some(slot) = self.slots.find(place) else {
+            return Err(Refusal::NoSuchPlace);
+        };
         Ok(slot.shown(self.life))
     }
 

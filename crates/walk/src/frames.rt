@@ -10,13 +10,19 @@ use wire::Frame;
 pub struct Frames<'a, C> {
     carrier: &'a C,
     next: u32,
+    // how many there are: asked once, it lets the compiler see how long a walk is, and do several frames in one step
+    end: u32,
 }
 
 impl<'a, C: Carrier> Frames<'a, C> {
     pub fn of(carrier: &'a C) -> Frames<'a, C>
         ensures { frames_left C.Carrier result ≡ C.Carrier.list carrier.now }
     {
-        Frames { carrier, next: 0 }
+        Frames {
+            carrier,
+            next: 0,
+            end: carrier.count(),
+        }
     }
 }
 
@@ -28,7 +34,12 @@ impl<C: Carrier> Iterator for Frames<'_, C> {
     ghost remaining = { item_count (frames_left C.Carrier) };
 
     fn next(&mut self) -> Option<(Frame, u32)> {
-        let shown = self.carrier.show(self.next).ok()?;
+        if self.next >= self.end {
+            return None;
+        }
+        let Ok(shown) = self.carrier.show(self.next) else {
+            return None;
+        };
         self.next += 1;
         Some(shown)
     }

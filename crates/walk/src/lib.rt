@@ -50,12 +50,17 @@ pub fn strike_old<C: Carrier>(c: &mut C, life: u32)
     }
 }
 
-// Looks at every frame, and counts those younger than `life`. Apart and not inlined, like `show_each_young`: else `speed log` takes 4% more instructions.
-#[inline(never)]
+// Looks at every frame, and counts those younger than `life`. A loop, as is the next walk: through `filter` the compiler does one frame a step, which takes six times as long.
 fn count_each_young<C: Carrier>(c: &C, life: u32) -> u32
     ensures { result ≡ length (filter (under life) (C.Carrier.list c.now)) }
 {
-    Frames::of(c).filter(|(_, age)| *age < life).count() as u32
+    let mut young = 0;
+    for (_, age) in Frames::of(c) {
+        if age < life {
+            young += 1;
+        }
+    }
+    young
 }
 
 // How many frames are younger than `life`.
@@ -71,14 +76,19 @@ pub fn count_young<C: Carrier>(c: &C, life: u32) -> u32
 }
 
 // Looks at the frames one by one for the one at a place among those younger than `life`.
-#[inline(never)]
 fn show_each_young<C: Carrier>(c: &C, life: u32, place: u32) -> Result<(Frame, u32), Refusal>
     ensures { Shown place (filter (under life) (C.Carrier.list c.now)) result }
 {
-    Frames::of(c)
-        .filter(|(_, age)| *age < life)
-        .nth(place as usize)
-        .ok_or(Refusal::NoSuchPlace)
+    let mut young = 0;
+    for (frame, age) in Frames::of(c) {
+        if age < life {
+            if young == place {
+                return Ok((frame, age));
+            }
+            young += 1;
+        }
+    }
+    Err(Refusal::NoSuchPlace)
 }
 
 // The frame and its age at one place among those younger than `life`.

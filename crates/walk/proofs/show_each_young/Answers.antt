@@ -1,15 +1,23 @@
-use Rattle.std.proofs.Common.{sym, ◌∙◌, rules}
-use Rattle.std.proofs.lemmas.Iterator.Adapters.{option_map_id}
-use Rattle.std.proofs.lemmas.Iterator.Consumers.{YieldsList-at, nth_from_yields_List, YieldsList-from_first, YieldsList-from_filter}
-use borrow.Author.Tests.{tests}
-use Rattle.carrier.specs.Carriers.{under}
+use Rattle.std.proofs.Common.{◌≡◌, ◌∷◌, drop, filter, length, sym, refl, ap, ◌∙◌, arith}
+use Rattle.std.proofs.lemmas.List.{drop-drop, length-drop}
+use Rattle.std.proofs.lemmas.Bool.{lt-ltb}
+use Rattle.lists.proofs.Kept.{kept_yes}
+use Rattle.carrier.specs.Carriers.{Aged, under}
 use Rattle.walk.specs.Frames.{frames_left}
-use Rattle.walk.proofs.Youngs.{shown_get}
 use Rattle.walk.proofs.show_each_young.Goals as goal
+
+pub loop-frame-preserved-then-age-life : goal.loop-frame-preserved-then-age-life
+loop-frame-preserved-then-age-life g c =
+    let p = under c.args.life in
+    let all = filter p (g.C.Carrier.list c.args.c.now) in
+    let x : Aged = (c.in-Some.frame, c.in-Some.age) in
+    let rest = frames_left g.C.Carrier c.next.new.self in
+    let here : drop c.loop-frame.young all ≡ x ∷ filter p rest = sym c.loop-frame.invariant.0 ∙ ap (filter p) c.in-Some.ensures.steps ∙ kept_yes p x rest (lt-ltb c.in-Some.age c.args.life c.if-age-life.true) in
+    (sym (ap (drop 1) here) ∙ drop-drop 1 c.loop-frame.young all, omega (arith, c.loop-frame.invariant.1, c.if-young-place.false))
 
 pub returns : goal.returns
 returns g c =
-    let k = g.C.Carrier in
-    let all = YieldsList-at c.filter.ensures.source (YieldsList-from_first (λ x. x) (frames_left k) (k.list c.args.c.now) c.of.ensures) in
-    let found = nth_from_yields_List c.nth.result c.nth.new.self c.args.place c.nth.ensures.ran (YieldsList-from_filter _ (under c.args.life) all c.filter.ensures.closure (λ x b q t. search (rules, tests))) in
-    shown_get _ _ _ _ c.ok_or.ensures.value (sym (option_map_id c.nth.result) ∙ found)
+    let p = under c.args.life in
+    let all = filter p (g.C.Carrier.list c.args.c.now) in
+    let none = sym c.loop-frame.invariant.0 ∙ ap (filter p) c.in-None.ensures.steps.0 in
+    (omega (arith, c.loop-frame.invariant.1, length-drop c.loop-frame.young all, ap length none), refl)
