@@ -13,15 +13,18 @@ use promise::Turn;
 use std::alloc::{AllocError, Global};
 use wire::{Command, Refusal, Terms};
 
-// A line for each call.
+// A line for each call, with room for two more: the end's, and that of a bad word.
 fn turn_lines(heap: Global, turns: &[Turn<Command>]) -> Result<Vec<Line>, AllocError>
     ensures { IfOk result (λ v. v.items ≡ lines_from 0 turns.now) }
 {
-    turns
-        .iter()
-        .enumerate()
-        .map(|(position, turn)| Line::of_turn(position as u64, *turn))
-        .collect(heap)
+    let mut lines = Vec::with_capacity(heap, turns.len() + 2)?;
+    lines.extend(
+        turns
+            .iter()
+            .enumerate()
+            .map(|(position, turn)| Line::of_turn(position as u64, *turn)),
+    )?;
+    Ok(lines)
 }
 
 // Runs the calls on one path over two shelves, and writes each answer beside its call.
