@@ -119,8 +119,10 @@ impl Carrier for Log<'_> {
     }
 
     fn tick(&mut self) {
-        self.quads.retain(&self.now);
-        self.now = self.now.next();
+        // copied out: where it lies, it would be read again for each frame
+        let now = self.now;
+        self.quads.retain(&now);
+        self.now = now.next();
     }
 
     fn lifetime(&self) -> u32 {
