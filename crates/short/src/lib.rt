@@ -2,7 +2,7 @@
 #![tactic(auto)]
 
 ghost use Rattle.std.specs.Prelude.{◌≡◌, min, max, []};
-ghost use Rattle.carrier.specs.Carriers.{SameBounds};
+ghost use Rattle.carrier.specs.Carriers.{Put, SameBounds};
 ghost use Rattle.walk.specs.Walks.{Young};
 ghost use Rattle.short.specs.Shorts.{short_list, short_life, short_room, short_laws};
 
@@ -65,8 +65,12 @@ impl<C: Carrier> Carrier for Short<C> {
     // In place where it is called, as strike is: else a call costs twice as much where nothing can be too old.
     #[tactic(auto, using(crate::proofs::Shorts::young_put))]
     #[inline]
-    fn put(&mut self, frame: Frame) -> Result<(), Refusal> {
-        self.settle();
+    fn put(&mut self, frame: Frame) -> Result<(), Refusal>
+        ensures put { Put (short_room C.Carrier self.old) frame (short_list C.Carrier self.old) result (short_list C.Carrier self.new) }
+        ensures bounds { SameBounds (short_life C.Carrier) (short_room C.Carrier) self.old self.new }
+        ensures settled { Young (short_life C.Carrier self.old) (C.Carrier.list self.new.below) }
+    {
+        self.settle(); // by a put that is refused too
         self.below.put(frame)
     }
 

@@ -72,6 +72,7 @@ pub struct Log<'a> {
 
 impl<'a> Log<'a> {
     // An empty log. Of the slice it uses 4,096 frames of four words at most; a lifetime outside 1 to 65,535 is taken as the nearer end.
+    #[tactic(auto, using(crate::proofs::Quads::chunks_quads))]
     pub fn new(words: &'a mut [u32], lifetime: u32) -> Log<'a>
         ensures list { log_list result ≡ [] }
         ensures life { log_life result ≡ min 65535 (max 1 lifetime) }
