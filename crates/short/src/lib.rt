@@ -62,7 +62,7 @@ impl<C: Carrier> Carrier for Short<C> {
 
     ghost laws = { short_laws C.Carrier };
 
-    // In place where it is called, as strike is: else a call costs twice as much where nothing can be too old.
+    // In place where it is called, as strike is: else a call costs nearly twice as much where nothing can be too old.
     #[tactic(auto, using(crate::proofs::Shorts::young_put))]
     #[inline]
     fn put(&mut self, frame: Frame) -> Result<(), Refusal>
