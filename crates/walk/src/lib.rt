@@ -8,9 +8,17 @@ ghost use Rattle.walk.specs.Walks.{Young};
 use carrier::Carrier;
 use wire::{Frame, Refusal};
 
-mod frames;
+mod steps;
 
-use frames::Frames;
+// The frames of any carrier in order, each with its age. Here and not beside its members: those cite which frames are left, and that definition names the struct.
+#[derive(Drop)]
+struct Frames<'a, C: Carrier> {
+    carrier: &'a C,
+    next: u32,
+    // how many there are: asked once, it lets the compiler see how long a walk is, and do several frames in one step
+    end: u32,
+    ghost whole: { end ≡ length (C.Carrier.list carrier.now) },
+}
 
 // Strikes every frame from `place` on. Only the place counts, so unlike `strike_old` it looks at no frame; one walk for both would take a closure, and look at each.
 pub fn strike_from<C: Carrier>(c: &mut C, place: u32)

@@ -1,18 +1,11 @@
-// The frames of any carrier in order, each with its age: a struct, whose members say which frames are left.
+// How a walk over a carrier begins and goes on: the members say which frames are left.
 ghost use Rattle.std.specs.Prelude.{◌≡◌};
 ghost use Rattle.std.specs.Iterator.{YieldsFirst, item_count};
 ghost use Rattle.walk.specs.Frames.{frames_left};
 
+use crate::Frames;
 use carrier::Carrier;
 use wire::Frame;
-
-#[derive(Drop)]
-pub struct Frames<'a, C> {
-    carrier: &'a C,
-    next: u32,
-    // how many there are: asked once, it lets the compiler see how long a walk is, and do several frames in one step
-    end: u32,
-}
 
 impl<'a, C: Carrier> Frames<'a, C> {
     pub fn of(carrier: &'a C) -> Frames<'a, C>
