@@ -10,7 +10,7 @@ use wire::{Frame, Refusal};
 
 mod steps;
 
-// The frames of any carrier in order, each with its age. Here and not beside its members: those cite which frames are left, and that definition names the struct.
+// The frames of any carrier in order, each with its age. Here and not beside its members: they cite `frames_left`, and no struct with a ghost field can stand where a definition that names it is imported.
 #[derive(Drop)]
 struct Frames<'a, C: Carrier> {
     carrier: &'a C,
